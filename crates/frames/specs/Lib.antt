@@ -1,0 +1,7 @@
+pub mod Text
+pub mod Kinds
+pub mod Numbers
+pub mod Outcome
+pub mod Reading
+pub mod Laws
+pub mod Writing
