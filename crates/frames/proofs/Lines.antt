@@ -63,6 +63,11 @@ pub less-left : (xs : List ℕ) (line : ℕ) → (reading xs line ≡ end → �
 less-left [] line h = absurd (h refl)
 less-left (c ∷ cs) line h = let d = length-drop (width (c ∷ cs) + 1) (c ∷ cs) in let n : 0 < length (c ∷ cs) = omega arith in omega arith
 
+-- where there is a line, there is a byte
+pub some-left : (xs : List ℕ) (line : ℕ) → (reading xs line ≡ end → ⊥) → 0 < length xs
+some-left [] line h = absurd (h refl)
+some-left (c ∷ cs) line h = omega arith
+
 pub less-after-frame : (xs : List ℕ) (line : ℕ) (f : List ℕ) → frame f ≡ reading xs line → length (past xs) < length xs
 less-after-frame xs line f e = less-left xs line (λ z. let q : _≡_ {A = ℕ} 0 1 = cc in omega arith)
 

@@ -215,6 +215,9 @@ end-told xs line end (none e) q = e
 end-told xs line (frame g) t q = let z : _≡_ {A = ℕ} 0 1 = cc in absurd (omega arith)
 end-told xs line (fault e) t q = let z : _≡_ {A = ℕ} 0 1 = cc in absurd (omega arith)
 
+pub end-read : (xs : List ℕ) (line : ℕ) → reading xs line ≡ end → xs ≡ []
+end-read xs line e = end-told xs line (reading xs line) (reading-tells xs line) e
+
 pub written-reads : Written-reads
 written-reads [] line h = done refl
 written-reads (f ∷ fs) line (sound, h) =
@@ -222,7 +225,7 @@ written-reads (f ∷ fs) line (sound, h) =
     (rw past-line (written-reads fs (lineAfter (lineText f ++ text fs) line) h))
 
 pub read-is-written : Read-is-written
-read-is-written [] line xs (done e) = (end-told xs line (reading xs line) (reading-tells xs line) e, tt)
+read-is-written [] line xs (done e) = (end-read xs line e, tt)
 read-is-written (f ∷ fs) line xs (more e r) =
     let h = frame-told xs line (reading xs line) f (reading-tells xs line) e in
     let t = read-is-written fs (lineAfter xs line) (past xs) r in

@@ -1,0 +1,4 @@
+//! Frames and faults in words, for people who look at a text of frames.
+
+pub mod check;
+pub mod words;
