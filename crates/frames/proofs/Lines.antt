@@ -9,9 +9,11 @@ use lib.ListN.{length, take, drop, getD}
 use Rattle.std.proofs.shelf.Lists.{length-drop, drop-drop, drop-all}
 use Rattle.std.proofs.shelf.Sums.{leading-drop-yes, leading-drop-no, leading-drop-all}
 use Rattle.std.proofs.shelf.Tests.{cond-true, cond-false, ne-eqb, eq-eqb, not-from-false, not-from-true, lt-ltb, le-ltb}
+use Rattle.frames.specs.declared.faults.FaultNumbers.{FaultNumbers}
 use Rattle.frames.specs.declared.faults.Flaw.the-variants.{NoEnd}
 use Rattle.frames.specs.declared.faults.FrameFault.{FrameFault}
 use Rattle.frames.specs.declared.faults.FrameFault.the-variants.{Malformed}
+use Rattle.frames.specs.Numbers.{numbers}
 use Rattle.frames.specs.Text.{width}
 use Rattle.frames.specs.Outcome.{Outcome, frame, end, fault, lineOutcome, reading, past, lineAfter}
 
@@ -24,7 +26,7 @@ width-stop xs i h e = leading-drop-no (λ c. not (eqb c 10)) xs i 0 h (not-from-
 pub width-all : (xs : List ℕ) (i : ℕ) → length xs ≤ i → width (drop i xs) ≡ 0
 width-all xs i h = leading-drop-all (λ c. not (eqb c 10)) xs i h
 
-pub reading-more : (xs : List ℕ) (line : ℕ) → 0 < length xs → reading xs line ≡ cond (ltb (width xs) (length xs)) (lineOutcome line (take (width xs) xs)) (fault (Malformed line NoEnd))
+pub reading-more : (xs : List ℕ) (line : ℕ) → 0 < length xs → reading xs line ≡ cond (ltb (width xs) (length xs)) (lineOutcome line (take (width xs) xs)) (fault (numbers 1 1 line 0) (Malformed line NoEnd))
 reading-more [] line h = absurd (let z : _<_ 0 0 = h in omega arith)
 reading-more (c ∷ cs) line h = refl
 
@@ -43,7 +45,7 @@ module _ (bs : List ℕ) (at line : ℕ) where
     pub next-line : lineAfter (drop at bs) line ≡ line + 1
     next-line = line-more (drop at bs) line (let n = length-drop at bs in omega arith)
 
-    pub open-line : stop ≡ length bs → (reading (drop at bs) line ≡ fault (Malformed line NoEnd)) × (drop stop bs ≡ past (drop at bs))
+    pub open-line : stop ≡ length bs → (reading (drop at bs) line ≡ fault (numbers 1 1 line 0) (Malformed line NoEnd)) × (drop stop bs ≡ past (drop at bs))
     open-line e =
         let n = length-drop at bs in (
           reading-more (drop at bs) line (omega arith) ∙ cond-false _ _ _ (le-ltb (width (drop at bs)) (length (drop at bs)) (omega arith)),
@@ -71,5 +73,5 @@ some-left (c ∷ cs) line h = omega arith
 pub less-after-frame : (xs : List ℕ) (line : ℕ) (f : List ℕ) → frame f ≡ reading xs line → length (past xs) < length xs
 less-after-frame xs line f e = less-left xs line (λ z. let q : _≡_ {A = ℕ} 0 1 = cc in omega arith)
 
-pub less-after-fault : (xs : List ℕ) (line : ℕ) (w : FrameFault) → fault w ≡ reading xs line → length (past xs) < length xs
-less-after-fault xs line w e = less-left xs line (λ z. let q : _≡_ {A = ℕ} 0 1 = cc in omega arith)
+pub less-after-fault : (xs : List ℕ) (line : ℕ) (n : FaultNumbers) (w : FrameFault) → fault n w ≡ reading xs line → length (past xs) < length xs
+less-after-fault xs line n w e = less-left xs line (λ z. let q : _≡_ {A = ℕ} 0 1 = cc in omega arith)

@@ -18,6 +18,7 @@ use Rattle.frames.specs.declared.frame.Frame.{Frame}
 use Rattle.frames.specs.declared.faults.Flaw.the-variants.{NoEnd}
 use Rattle.frames.specs.declared.faults.FrameFault.{FrameFault}
 use Rattle.frames.specs.declared.faults.FrameFault.the-variants.{Malformed, WrongSum}
+use Rattle.frames.specs.Numbers.{numbers}
 use Rattle.frames.specs.Text.{Sized, Good, Bytes, hexDigit, digitValue, byteDigits, hex, lineText, text, sealing, paired, bytesOf, bounded, width}
 use Rattle.frames.specs.Outcome.{body, Outcome, frame, end, fault, flawOf, summed, judged, lineOutcome, reading, past, lineAfter}
 use Rattle.frames.specs.Laws.{Sound, Begins, Tells, none, good, summed as wrong-sum, malformed, Reading-tells, Reads, done, more, Written-reads, Read-is-written}
@@ -141,12 +142,12 @@ read-good f rest line ((sized, sum-ok), small) = read-line f rest line sized sma
 module _ (xs : List ℕ) (line : ℕ) where
   tells-sum : (bs : List ℕ) → Begins xs bs (past xs) → Tells xs line (summed line bs)
   tells-sum bs begins =
-      cond-both (eqb (sum bs % 256) 0) (frame bs) (fault (WrongSum line (sealing (take (length bs - 1) bs)))) (Tells xs line)
+      cond-both (eqb (sum bs % 256) 0) (frame bs) (fault (numbers 1 2 line 0) (WrongSum line (sealing (take (length bs - 1) bs)))) (Tells xs line)
       (λ t. good bs begins (eqb-true (sum bs % 256) 0 t))
       (λ t.
       let n : length (take (length bs - 1) bs) ≡ length bs - 1 = length-take-le (length bs - 1) bs (omega arith) in
       wrong-sum bs (sealing (take (length bs - 1) bs)) begins (λ e. let q = eq-eqb (sum bs % 256) 0 e in let z : _≡_ {A = Bool} true false = sym q ∙ t in let y : _≡_ {A = ℕ} 0 1 = cc in omega arith)
-      (sealed-good (take (length bs - 1) bs) (let s = begins .sized in omega arith) (let s = begins .sized in omega arith), sealed-bytes (take (length bs - 1) bs) (front-bytes bs (length bs - 1) (begins .bytes))) refl)
+      (sealed-good (take (length bs - 1) bs) (let s = begins .sized in omega arith) (let s = begins .sized in omega arith), sealed-bytes (take (length bs - 1) bs) (front-bytes bs (length bs - 1) (begins .bytes))))
 
 -- bytes within bounds, from the characters of a line
 bounded-is : (o : Option (List ℕ)) (f : List ℕ) → Some f ≡ bounded o → (o ≡ Some f) × Sized f
@@ -188,7 +189,7 @@ begun-line xs bs rest begins =
 
 tells-line : (xs : List ℕ) (line : ℕ) → 0 < length xs → width xs < length xs → (o : Option (List ℕ)) → o ≡ bounded (bytesOf (take (width xs) xs)) → Tells xs line (judged line (take (width xs) xs) o)
 tells-line xs line some h None e =
-    malformed (flawOf (take (width xs) xs)) some (λ bs rest begins. let q = begun-line xs bs rest begins .1 in let z : _≡_ {A = ℕ} 0 1 = cc in omega arith) (flaw-shows xs h (sym e)) refl
+    malformed (flawOf (take (width xs) xs)) some (λ bs rest begins. let q = begun-line xs bs rest begins .1 in let z : _≡_ {A = ℕ} 0 1 = cc in omega arith) (flaw-shows xs h (sym e))
 tells-line xs line some h (Some bs) e = tells-sum xs line bs (begins-line xs bs h e)
 
 pub reading-tells : Reading-tells
@@ -196,11 +197,11 @@ reading-tells [] line = none refl
 reading-tells (c ∷ cs) line =
     let xs = c ∷ cs in
     let some : 0 < length xs = omega arith in
-    cond-both (ltb (width xs) (length xs)) (lineOutcome line (take (width xs) xs)) (fault (Malformed line NoEnd)) (Tells xs line)
+    cond-both (ltb (width xs) (length xs)) (lineOutcome line (take (width xs) xs)) (fault (numbers 1 1 line 0) (Malformed line NoEnd)) (Tells xs line)
     (λ t. tells-line xs line some (ltb-true (width xs) (length xs) t) (bounded (bytesOf (take (width xs) xs))) refl)
     (λ t.
     malformed NoEnd some (λ bs rest begins. let q = lt-ltb (width xs) (length xs) (begun-line xs bs rest begins .0) in let z : _≡_ {A = ℕ} 0 1 = cc in omega arith)
-    (let w = leading-le-length goesOn xs in let v = ltb-false (width xs) (length xs) t in omega arith) refl)
+    (let w = leading-le-length goesOn xs in let v = ltb-false (width xs) (length xs) t in omega arith))
 
 -- the two that the round trip needs of it
 frame-told : (xs : List ℕ) (line : ℕ) (o : Outcome) (f : List ℕ) → Tells xs line o → o ≡ frame f → (xs ≡ lineText f ++ past xs) × Sound f
@@ -208,12 +209,12 @@ frame-told xs line end f (none e) q = let z : _≡_ {A = ℕ} 0 1 = cc in absurd
 frame-told xs line (frame g) f (good h begins ok) q =
     let e : h ≡ f = cc in
     rw (sym e) (begins .starts, ((begins .sized, ok), begins .bytes))
-frame-told xs line (fault e) f t q = let z : _≡_ {A = ℕ} 0 1 = cc in absurd (omega arith)
+frame-told xs line (fault n e) f t q = let z : _≡_ {A = ℕ} 0 1 = cc in absurd (omega arith)
 
 end-told : (xs : List ℕ) (line : ℕ) (o : Outcome) → Tells xs line o → o ≡ end → xs ≡ []
 end-told xs line end (none e) q = e
 end-told xs line (frame g) t q = let z : _≡_ {A = ℕ} 0 1 = cc in absurd (omega arith)
-end-told xs line (fault e) t q = let z : _≡_ {A = ℕ} 0 1 = cc in absurd (omega arith)
+end-told xs line (fault n e) t q = let z : _≡_ {A = ℕ} 0 1 = cc in absurd (omega arith)
 
 pub end-read : (xs : List ℕ) (line : ℕ) → reading xs line ≡ end → xs ≡ []
 end-read xs line e = end-told xs line (reading xs line) (reading-tells xs line) e

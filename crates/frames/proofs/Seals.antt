@@ -14,6 +14,7 @@ use Rattle.std.proofs.shelf.Lists.{take-all, take-more-set, take-at, length-app
 use Rattle.std.specs.declared.option.Option.{Option}
 use Rattle.std.specs.declared.option.Option.the-variants.{Some}
 use Rattle.frames.specs.declared.faults.FrameFault.the-variants.{WrongSum}
+use Rattle.frames.specs.Numbers.{numbers}
 use Rattle.frames.specs.Text.{Good, Bytes, sealing, sealed, bytesOf, bounded}
 use Rattle.frames.specs.Outcome.{Outcome, frame, fault, judged, summed, lineOutcome}
 
@@ -65,5 +66,5 @@ module _ (ds bs : List ℕ) (line : ℕ) (e : Some bs ≡ bounded (bytesOf ds)) 
   pub sum-right : sum bs % 256 ≡ 0 → frame bs ≡ lineOutcome line ds
   sum-right z = sym (cond-true _ _ _ (eq-eqb (sum bs % 256) 0 z)) ∙ ap (judged line ds) e
 
-  pub sum-wrong : (sum bs % 256 ≡ 0 → ⊥) → (right : ℕ) → right ≡ sealing (take (length bs - 1) bs) → fault (WrongSum line right) ≡ lineOutcome line ds
-  sum-wrong z right is = ap (λ (b : ℕ). fault (WrongSum line b)) is ∙ sym (cond-false _ _ _ (ne-eqb (sum bs % 256) 0 z)) ∙ ap (judged line ds) e
+  pub sum-wrong : (sum bs % 256 ≡ 0 → ⊥) → (right : ℕ) → right ≡ sealing (take (length bs - 1) bs) → fault (numbers 1 2 line 0) (WrongSum line right) ≡ lineOutcome line ds
+  sum-wrong z right is = ap (λ (b : ℕ). fault (numbers 1 2 line 0) (WrongSum line b)) is ∙ sym (cond-false _ _ _ (ne-eqb (sum bs % 256) 0 z)) ∙ ap (judged line ds) e

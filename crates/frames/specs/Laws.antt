@@ -9,7 +9,7 @@ use Rattle.frames.specs.declared.faults.Flaw.{Flaw}
 use Rattle.frames.specs.declared.faults.Flaw.the-variants.{NoEnd, Character, OddDigits, Length}
 use Rattle.frames.specs.declared.faults.FrameFault.the-variants.{Malformed, WrongSum}
 use Rattle.frames.specs.Text.{Sized, Good, Bytes, digitValue, width, lineText, text}
-use Rattle.frames.specs.Numbers.{numbers, frameNumbers}
+use Rattle.frames.specs.Numbers.{numbers}
 use Rattle.frames.specs.Outcome.{Outcome, frame, end, fault, reading, past, lineAfter}
 
 -- a good frame of bytes
@@ -36,9 +36,9 @@ pub data Tells (xs : List ℕ) (line : ℕ) : Outcome → Type 0 where
   -- the line of a good frame
   good : (f : List ℕ) → Begins xs f (past xs) → sum f % 256 ≡ 0 → Tells xs line (frame f)
   -- cause 2: the line of bytes with a wrong sum, which the byte `right` in the last place would mend
-  summed : (bs : List ℕ) (right : ℕ) → Begins xs bs (past xs) → (sum bs % 256 ≡ 0 → ⊥) → Sound (take (length bs - 1) bs ++ (right ∷ [])) → frameNumbers (WrongSum line right) ≡ numbers 1 2 line 0 → Tells xs line (fault (WrongSum line right))
+  summed : (bs : List ℕ) (right : ℕ) → Begins xs bs (past xs) → (sum bs % 256 ≡ 0 → ⊥) → Sound (take (length bs - 1) bs ++ (right ∷ [])) → Tells xs line (fault (numbers 1 2 line 0) (WrongSum line right))
   -- cause 1: there is something, and it is not the line of 2 to 24 bytes, as the flaw shows
-  malformed : (w : Flaw) → 0 < length xs → ((bs rest : List ℕ) → Begins xs bs rest → ⊥) → Shows xs w → frameNumbers (Malformed line w) ≡ numbers 1 1 line 0 → Tells xs line (fault (Malformed line w))
+  malformed : (w : Flaw) → 0 < length xs → ((bs rest : List ℕ) → Begins xs bs rest → ⊥) → Shows xs w → Tells xs line (fault (numbers 1 1 line 0) (Malformed line w))
 
 -- every list of bytes reads as what it is, at any line
 abbrev pub Reading-tells : Type 0

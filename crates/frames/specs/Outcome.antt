@@ -11,32 +11,34 @@ use Rattle.std.specs.declared.result.Result.{Result}
 use Rattle.std.specs.declared.result.Result.the-variants.{Ok, Err}
 use Rattle.frames.specs.declared.frame.Frame.{Frame}
 use Rattle.frames.specs.declared.frame.Form.{Form}
+use Rattle.frames.specs.declared.faults.FaultNumbers.{FaultNumbers}
 use Rattle.frames.specs.declared.faults.Flaw.{Flaw}
 use Rattle.frames.specs.declared.faults.Flaw.the-variants.{NoEnd, Character, OddDigits, Length}
 use Rattle.frames.specs.declared.faults.FrameFault.{FrameFault}
 use Rattle.frames.specs.declared.faults.FrameFault.the-variants.{Malformed, WrongSum, NotDue}
+use Rattle.frames.specs.Numbers.{numbers, frameNumbers}
 use Rattle.frames.specs.Text.{bytesOf, bounded, width, digitRun, sealing}
 
 -- the bytes of a frame
 abbrev pub body : Frame → List ℕ
 body f = take (f .len) (f .bytes)
 
--- the bytes of a good frame, the end of the text, or what is wrong with the line
+-- the bytes of a good frame, the end of the text, or what is wrong with the line: its layer, cause, line and node, and the fault
 pub data Outcome : Type 0 where
   frame : List ℕ → Outcome
   end : Outcome
-  fault : FrameFault → Outcome
+  fault : FaultNumbers → FrameFault → Outcome
 
 -- the outcome that an answer tells
 abbrev pub outcome : Result (Option Frame) FrameFault → Outcome
 outcome (Ok (Some f)) = frame (body f)
 outcome (Ok None) = end
-outcome (Err e) = fault e
+outcome (Err e) = fault (frameNumbers e) e
 
 -- the outcome that an answer about one line tells
 abbrev pub told : Result Frame FrameFault → Outcome
 told (Ok f) = frame (body f)
-told (Err e) = fault e
+told (Err e) = fault (frameNumbers e) e
 
 -- why the characters of a line write no 2 to 24 bytes: a wrong character first, then an odd digit, then the count
 abbrev pub flawOf : List ℕ → Flaw
@@ -45,11 +47,11 @@ flawOf ds =
 
 -- bytes are a frame where their sum is a multiple of 256
 abbrev pub summed : ℕ → List ℕ → Outcome
-summed line bs = cond (eqb (sum bs % 256) 0) (frame bs) (fault (WrongSum line (sealing (take (length bs - 1) bs))))
+summed line bs = cond (eqb (sum bs % 256) 0) (frame bs) (fault (numbers 1 2 line 0) (WrongSum line (sealing (take (length bs - 1) bs))))
 
 -- what the bytes of a line are, if its characters ds write any
 abbrev pub judged : ℕ → List ℕ → Option (List ℕ) → Outcome
-judged line ds None = fault (Malformed line (flawOf ds))
+judged line ds None = fault (numbers 1 1 line 0) (Malformed line (flawOf ds))
 judged line ds (Some bs) = summed line bs
 
 -- what the characters of a line are
@@ -60,7 +62,7 @@ lineOutcome line ds = judged line ds (bounded (bytesOf ds))
 abbrev pub reading : List ℕ → ℕ → Outcome
 reading [] line = end
 reading (c ∷ cs) line =
-    cond (ltb (width (c ∷ cs)) (length (c ∷ cs))) (lineOutcome line (take (width (c ∷ cs)) (c ∷ cs))) (fault (Malformed line NoEnd))
+    cond (ltb (width (c ∷ cs)) (length (c ∷ cs))) (lineOutcome line (take (width (c ∷ cs)) (c ∷ cs))) (fault (numbers 1 1 line 0) (Malformed line NoEnd))
 
 -- the text after its first line
 abbrev pub past : List ℕ → List ℕ
@@ -78,6 +80,6 @@ isDue (f ∷ fs) bs = (eqb (f .kind) (getD bs 0 0) && eqb (f .len) (length bs)) 
 
 -- a good frame that is not due is a fault
 abbrev pub awaited : List Form → ℕ → Outcome → Outcome
-awaited fs line (frame bs) = cond (isDue fs bs) (frame bs) (fault (NotDue line))
+awaited fs line (frame bs) = cond (isDue fs bs) (frame bs) (fault (numbers 1 3 line 0) (NotDue line))
 awaited fs line end = end
-awaited fs line (fault e) = fault e
+awaited fs line (fault w e) = fault w e

@@ -28,7 +28,7 @@ pub data Lines : List ℕ → ℕ → List Outcome → List ℕ → ℕ → Type
 abbrev pub outcomeText : ℕ → Outcome → List ℕ
 outcomeText line (frame bs) = frameText line bs ++ (10 ∷ [])
 outcomeText line end = []
-outcomeText line (fault e) = faultText (Record (Frame e)) ++ (10 ∷ [])
+outcomeText line (fault w e) = faultText (Record (Frame e)) ++ (10 ∷ [])
 
 -- the outcomes of lines, of which the first has this number, in words
 abbrev pub linesText : ℕ → List Outcome → List ℕ
@@ -39,7 +39,7 @@ linesText line (o ∷ os) = outcomeText line o ++ linesText (line + 1) os
 abbrev pub isFault : Outcome → Bool
 isFault (frame bs) = false
 isFault end = false
-isFault (fault e) = true
+isFault (fault w e) = true
 
 -- the text of the total, from how many lines there are, and how many of them are good and faulty
 abbrev pub totalPieces : ℕ → ℕ → ℕ → List ℕ
