@@ -51,18 +51,16 @@ hex-more bs i h =
     ∙ sym (append-assoc (hex (take i bs)) (hexDigit (getD bs i 0 / 16) ∷ []) (hexDigit (getD bs i 0 % 16) ∷ []))
 
 -- a byte's two digits more
-pub two-placed : (o bs : List ℕ) (at i k x y : ℕ) (out : List ℕ) → i < length bs → k ≡ at + 2 * i → k + 1 < length o
-    → out ≡ placed o at (hex (take i bs)) → x ≡ hexDigit (getD bs i 0 / 16) → y ≡ hexDigit (getD bs i 0 % 16)
-    → set (set out k x) (k + 1) y ≡ placed o at (hex (take (i + 1) bs))
-two-placed o bs at i k x y out h ek room eo ex ey =
+pub two-placed : (o bs : List ℕ) (at i k : ℕ) (out : List ℕ) → i < length bs → k ≡ at + 2 * i → k + 1 < length o → out ≡ placed o at (hex (take i bs))
+    → set (set out k (hexDigit (getD bs i 0 / 16))) (k + 1) (hexDigit (getD bs i 0 % 16)) ≡ placed o at (hex (take (i + 1) bs))
+two-placed o bs at i k out h ek room eo =
+    let x = hexDigit (getD bs i 0 / 16) in
+    let y = hexDigit (getD bs i 0 % 16) in
     let n : length (hex (take i bs)) ≡ 2 * i = length-hex (take i bs) ∙ ap (λ (j : ℕ). 2 * j) (length-take-le i bs (omega arith)) in
     let p = placed-push 0 o at (hex (take i bs)) x k (omega arith) (omega arith) in
     let m = length-push (hex (take i bs)) x in
     let q = placed-push 0 o at (hex (take i bs) ++ (x ∷ [])) y (k + 1) (omega arith) room in
-    let e = hex-more bs i h in
-    let g : set (set out k x) (k + 1) y ≡ set (set (placed o at (hex (take i bs))) k x) (k + 1) y = ap (λ (t : List ℕ). set (set t k x) (k + 1) y) eo in
-    let r : (hex (take i bs) ++ (x ∷ [])) ++ (y ∷ []) ≡ hex (take (i + 1) bs) = cc in
-    g ∙ ap (λ (t : List ℕ). set t (k + 1) y) p ∙ q ∙ ap (placed o at) r
+    ap (λ (t : List ℕ). set (set t k x) (k + 1) y) eo ∙ ap (λ (t : List ℕ). set t (k + 1) y) p ∙ q ∙ ap (placed o at) (sym (hex-more bs i h))
 
 -- the lines of frames, one by one
 text-append : (xs ys : List Frame) → textOf (xs ++ ys) ≡ textOf xs ++ textOf ys
@@ -88,8 +86,8 @@ module _ (fs : List Frame) (i : ℕ) (f : Frame) (h : i < length fs) (is : f ≡
       omega arith
 
   -- what is left fits what is spare
-  pub left-no : (spare n : ℕ) → n ≡ length (body f) → spare < 2 * n + 1 → leb (length (textOf (drop i fs))) spare ≡ false
+  pub left-no : (spare n : ℕ) → n ≡ 2 * length (body f) + 1 → spare < n → leb (length (textOf (drop i fs))) spare ≡ false
   left-no spare n e k = lt-leb (length (textOf (drop i fs))) spare (let b = text-left in omega arith)
 
-  pub left-yes : (spare n : ℕ) → n ≡ length (body f) → 2 * n + 1 ≤ spare → leb (length (textOf (drop (i + 1) fs))) (spare - (2 * n + 1)) ≡ leb (length (textOf (drop i fs))) spare
+  pub left-yes : (spare n : ℕ) → n ≡ 2 * length (body f) + 1 → n ≤ spare → leb (length (textOf (drop (i + 1) fs))) (spare - n) ≡ leb (length (textOf (drop i fs))) spare
   left-yes spare n e k = let b = text-left in grind (arith, tells)

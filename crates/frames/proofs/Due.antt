@@ -1,24 +1,19 @@
 -- Whether a frame is due.
-use mathlib.Core.Path.{_≡_, sym, _∙_}
+use mathlib.Core.Path.{_≡_, sym, ap, _∙_}
 use mathlib.Core.List.{List}
-use mathlib.Core.Bool.{true, false, _&&_, _||_}
+use mathlib.Core.Bool.{Bool, true, false, _||_}
 use Prim.Native.Nat.{ℕ, _+_, _<_}
-use lib.Dec.{eqb}
 use lib.ListN.{length, drop, getD}
-use Rattle.std.proofs.shelf.Tests.{ne-eqb, eq-eqb, or-left, and-from}
 use Rattle.std.proofs.shelf.Lists.{at-drop-more}
 use Rattle.frames.specs.declared.frame.Form.{Form}
-use Rattle.frames.specs.Outcome.{isDue}
+use Rattle.frames.specs.Outcome.{admits, isDue}
 
 module _ (fs : List Form) (bs : List ℕ) (i : ℕ) (d : Form) (h : i < length fs) where
-  due-more : isDue (drop i fs) bs ≡ ((eqb (getD fs i d .kind) (getD bs 0 0) && eqb (getD fs i d .len) (length bs)) || isDue (drop (i + 1) fs) bs)
-  due-more = at-drop-more (λ (t : List Form). isDue t bs) fs i d h
+  due-by : (b : Bool) → admits (getD fs i d) (getD bs 0 0) (length bs) ≡ b → isDue (drop i fs) bs ≡ (b || isDue (drop (i + 1) fs) bs)
+  due-by b e = at-drop-more (λ (t : List Form). isDue t bs) fs i d h ∙ ap (λ (v : Bool). v || isDue (drop (i + 1) fs) bs) e
 
-  pub due-yes : getD fs i d .kind ≡ getD bs 0 0 → getD fs i d .len ≡ length bs → isDue (drop i fs) bs ≡ true
-  due-yes p q = due-more ∙ or-left _ _ (and-from (eqb (getD fs i d .kind) (getD bs 0 0)) (eqb (getD fs i d .len) (length bs)) (eq-eqb (getD fs i d .kind) (getD bs 0 0) p) (eq-eqb (getD fs i d .len) (length bs) q))
+  pub due-yes : admits (getD fs i d) (getD bs 0 0) (length bs) ≡ true → isDue (drop i fs) bs ≡ true
+  due-yes e = due-by true e
 
-  pub due-other-kind : (getD fs i d .kind ≡ getD bs 0 0 → ⊥) → isDue (drop (i + 1) fs) bs ≡ isDue (drop i fs) bs
-  due-other-kind p = let e = ne-eqb (getD fs i d .kind) (getD bs 0 0) p in let m = due-more in sym (rw e at m)
-
-  pub due-other-len : getD fs i d .kind ≡ getD bs 0 0 → (getD fs i d .len ≡ length bs → ⊥) → isDue (drop (i + 1) fs) bs ≡ isDue (drop i fs) bs
-  due-other-len k p = let e = ne-eqb (getD fs i d .len) (length bs) p in let f = eq-eqb (getD fs i d .kind) (getD bs 0 0) k in let m = due-more in sym (rw (f, e) at m)
+  pub due-no : admits (getD fs i d) (getD bs 0 0) (length bs) ≡ false → isDue (drop (i + 1) fs) bs ≡ isDue (drop i fs) bs
+  due-no e = sym (due-by false e)

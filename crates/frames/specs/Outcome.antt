@@ -73,10 +73,14 @@ abbrev pub lineAfter : List ℕ → ℕ → ℕ
 lineAfter [] line = line
 lineAfter (c ∷ cs) line = line + 1
 
--- is a frame of one of these kinds, with the byte count that goes with it?
+-- does a form admit frames of this kind and byte count?
+abbrev pub admits : Form → ℕ → ℕ → Bool
+admits f k n = eqb (f .kind) k && eqb (f .len) n
+
+-- is a frame of one of these forms?
 abbrev pub isDue : List Form → List ℕ → Bool
 isDue [] bs = false
-isDue (f ∷ fs) bs = (eqb (f .kind) (getD bs 0 0) && eqb (f .len) (length bs)) || isDue fs bs
+isDue (f ∷ fs) bs = admits f (getD bs 0 0) (length bs) || isDue fs bs
 
 -- a good frame that is not due is a fault
 abbrev pub awaited : List Form → ℕ → Outcome → Outcome

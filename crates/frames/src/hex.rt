@@ -1,6 +1,7 @@
 //! Hexadecimal digits, and the sum of bytes.
 
 ghost use mathlib.Core.Path.{_≡_};
+ghost use mathlib.Core.Bool.{true, false};
 ghost use Prim.Native.Nat.{_%_, _<_, _≤_};
 ghost use lib.ListN.{length, take};
 ghost use Rattle.std.specs.Options.{Cases as BySome, mapped};
@@ -58,13 +59,21 @@ pub(crate) fn digit_run(digits: &[u8]) -> usize
     digits.len()
 }
 
+/// Whether so many digits write 2 to 24 bytes.
+fn writes_frame(count: usize) -> bool
+    ensures yes { λ r. ⌜ (r ≡ true → (count % 2 ≡ 0) × (4 ≤ count) × (count ≤ 48)) ⌝ }
+    ensures no { λ r. ⌜ (r ≡ false → count % 2 ≡ 0 → 4 ≤ count → count ≤ 48 → ⊥) ⌝ }
+{
+    count % 2 == 0 && count >= 4 && count <= 48
+}
+
 /// Writes the bytes of 4 to 48 digits to the front of `out`, and answers how many there are.
 pub(crate) fn bytes_into(digits: &[u8], out: &mut [u8; 24]) -> Option<usize>
     ensures value { λ r. ⌜ mapped (λ n. take n (now (out .exit))) r ≡ bounded (bytesOf (now (digits .entry))) ⌝ }
     ensures sized { λ r. ⌜ BySome r (Unit {0}) (λ n. (2 ≤ n) × (n ≤ 24)) ⌝ }
 {
     let count = digits.len();
-    if count % 2 != 0 || count < 4 || count > 48 {
+    if !writes_frame(count) {
         return None;
     }
     let len = count / 2;

@@ -2,13 +2,13 @@
 
 ghost use mathlib.Core.Path.{_≡_};
 ghost use mathlib.Core.List.{map};
-ghost use Prim.Native.Nat.{_+_, _*_, _≤_};
+ghost use Prim.Native.Nat.{_+_, _*_, _/_, _%_, _≤_};
 ghost use lib.Dec.{leb};
-ghost use lib.ListN.{length, take};
+ghost use lib.ListN.{length, set, take};
 ghost use Rattle.std.specs.Vec.{made};
-ghost use Rattle.frames.specs.Laws.{Reads, Written-reads, Read-is-written};
+ghost use Rattle.frames.specs.Laws.{Reads, Reading-tells, Written-reads, Read-is-written};
 ghost use Rattle.frames.specs.Outcome.{body};
-ghost use Rattle.frames.specs.Text.{lineText, placed};
+ghost use Rattle.frames.specs.Text.{hexDigit, lineText, placed};
 ghost use Rattle.frames.specs.Writing.{refusalNumber, textOf, Wrote};
 use crate::frame::Frame;
 use crate::hex::byte_digits;
@@ -31,6 +31,16 @@ impl WriteRefusal {
     }
 }
 
+/// Writes a byte's two digits at `at`.
+fn put_byte(b: u8, out: &mut [u8], at: usize)
+    requires { ⌜ at + 2 ≤ length (now out) ⌝ }
+    ensures { λ _. ⌜ now (out .exit) ≡ set (set (now (out .entry)) at (hexDigit (b / 16))) (at + 1) (hexDigit (b % 16)) ⌝ }
+{
+    let [high, low] = byte_digits(b);
+    out[at] = high;
+    out[at + 1] = low;
+}
+
 /// Writes a frame's line from `start` on, and answers where it ends.
 fn put_line(bytes: &[u8], out: &mut [u8], start: usize) -> usize
     requires { ⌜ start + (2 * length (now bytes) + 1) ≤ length (now out) ⌝ }
@@ -39,13 +49,18 @@ fn put_line(bytes: &[u8], out: &mut [u8], start: usize) -> usize
 {
     let mut at = start;
     for b in bytes {
-        let digits = byte_digits(*b);
-        out[at] = digits[0];
-        out[at + 1] = digits[1];
+        put_byte(*b, out, at);
         at += 2;
     }
     out[at] = b'\n';
     at + 1
+}
+
+/// How many bytes a frame's line takes.
+fn line_len(frame: &Frame) -> usize
+    ensures { λ r. ⌜ r ≡ 2 * length (body (now (frame .entry))) + 1 ⌝ }
+{
+    2 * frame.len() + 1
 }
 
 /// Whether the lines of frames take at most so many bytes.
@@ -54,7 +69,7 @@ fn fits(frames: &[Frame], room: usize) -> bool
 {
     let mut spare = room;
     for frame in frames {
-        let need = 2 * frame.len() + 1;
+        let need = line_len(frame);
         if spare < need {
             return false;
         }
@@ -64,11 +79,12 @@ fn fits(frames: &[Frame], room: usize) -> bool
 }
 
 /// Writes the lines of frames to the front of `out`, and answers how many bytes they take; where `out` is too short
-/// it writes nothing. What is written reads back as these frames and then the end, and no other text does.
+/// it writes nothing. What is written reads back as these frames and then the end, and no other text does; and every
+/// line of any text reads as what it is.
 pub fn write_frames(frames: &[Frame], out: &mut [u8]) -> Result<usize, WriteRefusal>
     ensures wrote { λ r. ⌜ Wrote (textOf (now (frames .entry))) (now (out .entry)) (now (out .exit)) r ⌝ }
     ensures reads { λ r. ⌜ made r (λ n. Reads (take n (now (out .exit))) 1 (map body (now (frames .entry)))) ⌝ }
-    ensures law { λ _. ⌜ Written-reads ⌝ ∗ ⌜ Read-is-written ⌝ }
+    ensures law { λ _. ⌜ Reading-tells ⌝ ∗ ⌜ Written-reads ⌝ ∗ ⌜ Read-is-written ⌝ }
 {
     if !fits(frames, out.len()) {
         return Err(WriteRefusal::TooShort);

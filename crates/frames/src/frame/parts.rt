@@ -3,7 +3,7 @@
 ghost use mathlib.Core.Path.{_≡_};
 ghost use Prim.Native.Nat.{_≤_};
 ghost use lib.ListN.{length, getD};
-ghost use Rattle.frames.specs.Outcome.{body, flawOf, isDue, lineOutcome, told};
+ghost use Rattle.frames.specs.Outcome.{admits as admitsForm, body, flawOf, isDue, lineOutcome, told};
 ghost use Rattle.frames.specs.Writing.{Sealed};
 use super::Form;
 use super::Frame;
@@ -33,7 +33,7 @@ impl Frame {
         ensures value { λ r. ⌜ r ≡ length (body (now (self .entry))) ⌝ }
         ensures sized { λ r. ⌜ 2 ≤ r ⌝ ∗ ⌜ r ≤ 24 ⌝ }
     {
-        self.len
+        self.bytes().len()
     }
 
     /// A frame of 1 to 23 bytes and the one that makes the sum of all a multiple of 256; none for any other count.
@@ -87,6 +87,15 @@ pub(crate) fn frame_of(digits: &[u8], line: usize) -> Result<Frame, FrameFault>
     Ok(Frame { bytes, len })
 }
 
+impl Form {
+    /// Whether frames of this kind and byte count have this form.
+    pub fn admits(&self, kind: u8, len: usize) -> bool
+        ensures { λ r. ⌜ r ≡ admitsForm (now (self .entry)) kind len ⌝ }
+    {
+        self.kind == kind && self.len == len
+    }
+}
+
 /// Whether a frame is of one of these forms.
 pub(crate) fn is_due(forms: &[Form], frame: &Frame) -> bool
     ensures { λ r. ⌜ r ≡ isDue (now (forms .entry)) (body (now (frame .entry))) ⌝ }
@@ -94,7 +103,7 @@ pub(crate) fn is_due(forms: &[Form], frame: &Frame) -> bool
     let kind = frame.kind();
     let len = frame.len();
     for form in forms {
-        if form.kind == kind && form.len == len {
+        if form.admits(kind, len) {
             return true;
         }
     }

@@ -1,9 +1,8 @@
 //! Reading frames one after another.
 
 ghost use mathlib.Core.Path.{_≡_};
-ghost use Prim.Native.Nat.{_+_, _≤_};
+ghost use Prim.Native.Nat.{_+_, _≤_, _<_};
 ghost use lib.ListN.{length, drop};
-ghost use Rattle.frames.specs.Laws.{Reading-tells};
 ghost use Rattle.frames.specs.Text.{width};
 ghost use Rattle.frames.specs.Reading.{left, Next, Due};
 use super::FrameReader;
@@ -28,11 +27,10 @@ fn line_end(bytes: &[u8], start: usize) -> usize
 }
 
 impl<'a> FrameReader<'a> {
-    /// A reader at the start of a text, on line 1. What each line then reads as says what the line is.
+    /// A reader at the start of a text, on line 1.
     pub fn new(bytes: &'a [u8]) -> FrameReader<'a>
         ensures rest { λ r. ⌜ left r ≡ now (bytes .entry) ⌝ }
         ensures first { λ r. ⌜ r .line ≡ 1 ⌝ }
-        ensures law { λ _. ⌜ Reading-tells ⌝ }
     {
         FrameReader {
             bytes,
@@ -48,6 +46,17 @@ impl<'a> FrameReader<'a> {
         self.line
     }
 
+    /// Goes on to the line that begins at `to`.
+    fn go_on(&mut self, to: usize)
+        requires ahead { ⌜ now self .at < to ⌝ }
+        requires within { ⌜ to ≤ length (now (now self .bytes)) ⌝ }
+        ensures at { λ _. ⌜ left (now (self .exit)) ≡ drop to (now (now (self .entry) .bytes)) ⌝ }
+        ensures line { λ _. ⌜ now (self .exit) .line ≡ now (self .entry) .line + 1 ⌝ }
+    {
+        self.at = to;
+        self.line += 1;
+    }
+
     /// The next frame, none at the end, or what is wrong with the line. The reader goes on to the next line.
     pub fn next(&mut self) -> Result<Option<Frame>, FrameFault>
         ensures { λ r. ⌜ Next (now (self .entry)) (now (self .exit)) r ⌝ }
@@ -59,13 +68,12 @@ impl<'a> FrameReader<'a> {
             return Ok(None);
         }
         let end = line_end(bytes, start);
-        self.line = line + 1;
         if end == bytes.len() {
-            self.at = end;
+            self.go_on(end);
             let flaw = Flaw::NoEnd;
             return Err(FrameFault::Malformed { line, flaw });
         }
-        self.at = end + 1;
+        self.go_on(end + 1);
         Ok(Some(frame_of(&bytes[start..end], line)?))
     }
 

@@ -12,12 +12,12 @@ use Rattle.frames.proofs.writer.fits.Needs as need
 
 pub returns-then-spare-need : need.returns-then-spare-need
 returns-then-spare-need c =
-    sym (left-no (c .args .frames .now) (c .loop-frame .frame-index) (c .frame-item .result) (omega arith) (c .frame-item .is) (c .loop-frame .spare) (c .len .result) (c .len .ensures .value) (omega arith))
+    sym (left-no (c .args .frames .now) (c .loop-frame .frame-index) (c .frame-item .result) (omega arith) (c .frame-item .is) (c .loop-frame .spare) (c .line-len-need .result) (c .line-len-need .ensures) (omega arith))
     ∙ c .loop-frame .inv
 
 pub loop-frame-again : need.loop-frame-again
 loop-frame-again c =
-    left-yes (c .args .frames .now) (c .loop-frame .frame-index) (c .frame-item .result) (omega arith) (c .frame-item .is) (c .loop-frame .spare) (c .len .result) (c .len .ensures .value) (omega arith)
+    left-yes (c .args .frames .now) (c .loop-frame .frame-index) (c .frame-item .result) (omega arith) (c .frame-item .is) (c .loop-frame .spare) (c .line-len-need .result) (c .line-len-need .ensures) (omega arith)
     ∙ c .loop-frame .inv
 
 pub returns : need.returns

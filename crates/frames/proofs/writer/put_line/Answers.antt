@@ -14,8 +14,8 @@ loop-b-holds c = (omega arith, placed-none (c .args .out .now) (c .args .start))
 pub loop-b-again : need.loop-b-again
 loop-b-again c = (
   omega (arith, c .loop-b .inv .0),
-  two-placed (c .args .out .now) (c .args .bytes .now) (c .args .start) (c .loop-b .b-index) (c .loop-b .at) (getD (c .byte-digits-digits .result) 0 0) (getD (c .byte-digits-digits .result) 1 0) (c .loop-b .out)
-      (omega arith) (c .loop-b .inv .0) (omega (arith, c .loop-b .inv .0)) (c .loop-b .inv .1) (ap (λ (l : List ℕ). getD l 0 0) (c .byte-digits-digits .ensures)) (ap (λ (l : List ℕ). getD l 1 0) (c .byte-digits-digits .ensures)),
+  c .put-byte .ensures ∙ two-placed (c .args .out .now) (c .args .bytes .now) (c .args .start) (c .loop-b .b-index) (c .loop-b .at) (c .loop-b .out)
+      (omega arith) (c .loop-b .inv .0) (omega (arith, c .loop-b .inv .0)) (c .loop-b .inv .1),
 )
 
 pub returns : need.returns
