@@ -93,7 +93,10 @@ mod tests {
             return Err(Fail::new("three bytes are a frame's content"));
         };
         let mut out = [b'.'; 12];
-        check_eq(write_frames(&[frame], &mut out[0..8]), Err(WriteRefusal::TooShort))?;
+        check_eq(
+            write_frames(&[frame], &mut out[0..8]),
+            Err(WriteRefusal::TooShort),
+        )?;
         check(out == *b"............").note("a refusal writes nothing")?;
         check_eq(write_frames(&[frame], &mut out), Ok(9))?;
         check(out == *b"220201DB\n...").note("only the line's bytes change")?;
@@ -104,9 +107,14 @@ mod tests {
     fn faults_in_words(rt: LibcRuntime) -> Result<(), Fail> {
         let heap = rt.alloc();
         let report = check_text(heap, b"23DE\n23DD\n0405F6\n")?;
-        check(report.text.as_str() == "line 1: layer 1, cause 2: wrong sum, the last byte should be DD\nline 2: kind 23, 2 bytes: close\nline 3: layer 1, cause 2: wrong sum, the last byte should be F7\n3 lines: 1 good, 2 faulty\n")?;
+        check(
+            report.text.as_str()
+                == "line 1: layer 1, cause 2: wrong sum, the last byte should be DD\nline 2: kind 23, 2 bytes: close\nline 3: layer 1, cause 2: wrong sum, the last byte should be F7\n3 lines: 1 good, 2 faulty\n",
+        )?;
         let unnamed = fault_text(heap, &PageFault::Unnamed { line: 4, node: 3 })?;
-        check(unnamed.as_str() == "line 4: layer 3, cause 7, node 3: no later node names this one")?;
+        check(
+            unnamed.as_str() == "line 4: layer 3, cause 7, node 3: no later node names this one",
+        )?;
         let long = fault_text(heap, &PageFault::TooLong)?;
         check(long.as_str() == "line 0: layer 3, cause 8: the job has more than 32768 bytes")
     }

@@ -8,11 +8,11 @@ use lib.ListN.{length}
 use Rattle.std.specs.Of.String.{string-bytes}
 use Rattle.std.specs.shelf.Lists.{countBy}
 use Rattle.std.proofs.shelf.Lists.{length-push}
-use Rattle.std.proofs.shelf.Sums.{sumBy-push, countBy-le-length}
+use Rattle.std.proofs.shelf.Sums.{sumBy-cons, sumBy-push, countBy-le-length}
 use Rattle.frames.specs.Outcome.{Outcome, frame, end, fault, reading, past, lineAfter}
 use Rattle.frames.proofs.Lines.{line-more, less-left, some-left}
 use Rattle.frames.proofs.RoundTrip.{end-read}
-use Rattle.reports.specs.Checked.{Lines, here, next, outcomeText, linesText, isFault, totalText, Checked}
+use Rattle.reports.specs.Checked.{Lines, here, next, outcomeText, linesText, isGood, isFault, totalText, Checked}
 use Rattle.reports.specs.declared.check.Report.{Report}
 
 -- one line more
@@ -42,6 +42,21 @@ lines-long : (xs ys : List ℕ) (line last : ℕ) (os : List Outcome) → Lines 
 lines-long xs ys line last [] here = omega arith
 lines-long xs ys line last (o ∷ os) (next e more rest) = let l = less-left xs line (λ z. more (sym e ∙ z)) in let r = lines-long (past xs) ys (lineAfter xs line) last os rest in omega arith
 
+-- each line is good or faulty
+one-of-two : (o : Outcome) → (o ≡ end → ⊥) → cond (isGood o) 1 0 + cond (isFault o) 1 0 ≡ 1
+one-of-two (frame bs) more = refl
+one-of-two end more = absurd (more refl)
+one-of-two (fault w e) more = refl
+
+good-or-faulty : (xs ys : List ℕ) (line last : ℕ) (os : List Outcome) → Lines xs line os ys last → countBy isGood os + countBy isFault os ≡ length os
+good-or-faulty xs ys line last [] here = refl
+good-or-faulty xs ys line last (o ∷ os) (next e more rest) =
+    let r = good-or-faulty (past xs) ys (lineAfter xs line) last os rest in
+    let t = one-of-two o more in
+    let g = sumBy-cons (λ x. cond (isGood x) 1 0) o os in
+    let f = sumBy-cons (λ x. cond (isFault x) 1 0) o os in
+    omega arith
+
 module _ {xs ys said : List ℕ} {line faulty : ℕ} (so : SoFar xs ys line said faulty) where
   pub few-faulty : faulty + length ys ≤ length xs
   few-faulty = let a = countBy-le-length isFault (so .outcomes) in let b = lines-long xs ys 1 line (so .outcomes) (so .read) in let c = so .counted in omega arith
@@ -65,15 +80,20 @@ module _ {xs ys said : List ℕ} {line faulty : ℕ} (so : SoFar xs ys line said
         counted = k;
       })
 
+  pub fewer-faulty : faulty ≤ line - 1
+  fewer-faulty = let a = countBy-le-length isFault (so .outcomes) in let n = so .numbered in let c = so .counted in omega arith
+
   -- at the end
-  pub so-far-all : reading ys line ≡ end → (r : Report) (lines : ℕ) → lines ≡ line - 1 → string-bytes (r .text) ≡ said ++ totalText lines faulty → r .faulty ≡ faulty → Checked xs r
-  so-far-all e r lines lines-are said-is faulty-is =
+  pub so-far-all : reading ys line ≡ end → (r : Report) (lines good : ℕ) → lines ≡ line - 1 → good ≡ lines - faulty → string-bytes (r .text) ≡ said ++ totalText lines good faulty → r .faulty ≡ faulty → Checked xs r
+  so-far-all e r lines good lines-are good-are said-is faulty-is =
       let n = so .numbered in
       let k : lines ≡ length (so .outcomes) = omega arith in
+      let both = good-or-faulty xs ys 1 line (so .outcomes) (so .read) in
+      let g : good ≡ countBy isGood (so .outcomes) = let c = so .counted in omega arith in
       let none : ys ≡ [] = end-read ys line e in
       record {
         outcomes = so .outcomes;
         read = subst (λ (m : ℕ). Lines xs 1 (so .outcomes) [] m) n (subst (λ (zs : List ℕ). Lines xs 1 (so .outcomes) zs line) none (so .read));
-        said = said-is ∙ (λ i. so .text i ++ totalText (k i) (so .counted i));
+        said = said-is ∙ (λ i. so .text i ++ totalText (k i) (g i) (so .counted i));
         counted = faulty-is ∙ so .counted;
       }

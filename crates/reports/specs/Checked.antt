@@ -35,19 +35,21 @@ abbrev pub linesText : ℕ → List Outcome → List ℕ
 linesText line [] = []
 linesText line (o ∷ os) = outcomeText line o ++ linesText (line + 1) os
 
+-- is this a good frame?
+abbrev pub isGood : Outcome → Bool
+isGood (frame bs) = true
+isGood end = false
+isGood (fault w e) = false
+
 -- is this a fault?
 abbrev pub isFault : Outcome → Bool
 isFault (frame bs) = false
 isFault end = false
 isFault (fault w e) = true
 
--- the text of the total, from how many lines there are, and how many of them are good and faulty
-abbrev pub totalPieces : ℕ → ℕ → ℕ → List ℕ
-totalPieces lines good faulty = decimal lines ++ (codes " lines: " ++ (decimal good ++ (codes " good, " ++ (decimal faulty ++ (codes " faulty" ++ (10 ∷ []))))))
-
--- the total: what is not faulty is good
-abbrev pub totalText : ℕ → ℕ → List ℕ
-totalText lines faulty = totalPieces lines (lines - faulty) faulty
+-- the total: how many lines there are, and how many of them are good and faulty
+abbrev pub totalText : ℕ → ℕ → ℕ → List ℕ
+totalText lines good faulty = decimal lines ++ (codes " lines: " ++ (decimal good ++ (codes " good, " ++ (decimal faulty ++ (codes " faulty" ++ (10 ∷ []))))))
 
 -- the line at which a reader stands, in words; none at the end
 pub record LineRead (reader : FrameReader) (l : LineReport) : Type 0 where
@@ -62,5 +64,5 @@ LineFound reader o = Cases o (reading (left reader) (reader .line) ≡ end) (Lin
 pub record Checked (xs : List ℕ) (r : Report) : Type 0 where
   pub outcomes : List Outcome
   pub read : Lines xs 1 outcomes [] (length outcomes + 1)
-  pub said : string-bytes (r .text) ≡ linesText 1 outcomes ++ totalText (length outcomes) (countBy isFault outcomes)
+  pub said : string-bytes (r .text) ≡ linesText 1 outcomes ++ totalText (length outcomes) (countBy isGood outcomes) (countBy isFault outcomes)
   pub counted : r .faulty ≡ countBy isFault outcomes

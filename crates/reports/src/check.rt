@@ -1,8 +1,6 @@
 //! The report on a text: each line in words, and the total.
 
 ghost use mathlib.Core.Path.{_≡_};
-ghost use Prim.Native.Nat.{_≤_};
-ghost use lib.Dec.{ltb};
 ghost use Rattle.std.specs.Of.String.{string-bytes};
 ghost use Rattle.std.specs.Vec.{made};
 ghost use Rattle.frames.specs.Reading.{Moved};
@@ -30,10 +28,7 @@ pub struct Report {
 }
 
 /// The next line in words; none at the end.
-pub fn next_line(
-    heap: Global,
-    reader: &mut FrameReader,
-) -> Result<Option<LineReport>, AllocError>
+pub fn next_line(heap: Global, reader: &mut FrameReader) -> Result<Option<LineReport>, AllocError>
     ensures found { λ r. ⌜ made r (LineFound (now (reader .entry))) ⌝ }
     ensures moved { λ _. ⌜ Moved (now (reader .entry)) (now (reader .exit)) ⌝ }
 {
@@ -59,10 +54,14 @@ pub fn next_line(
 }
 
 /// How many lines there are, and how many of them are good and faulty.
-pub fn total_text(heap: Global, lines: usize, faulty: usize) -> Result<String, AllocError>
-    ensures { λ r. ⌜ made r (λ s. string-bytes s ≡ totalText lines faulty) ⌝ }
+pub fn total_text(
+    heap: Global,
+    lines: usize,
+    good: usize,
+    faulty: usize,
+) -> Result<String, AllocError>
+    ensures { λ r. ⌜ made r (λ s. string-bytes s ≡ totalText lines good faulty) ⌝ }
 {
-    let good = lines.saturating_sub(faulty);
     format!(heap, "{lines} lines: {good} good, {faulty} faulty\n")
 }
 
@@ -79,7 +78,8 @@ pub fn check_text(heap: Global, text: &[u8]) -> Result<Report, AllocError>
             faulty += 1;
         }
     }
-    let total = total_text(heap, reader.line() - 1, faulty)?;
+    let lines = reader.line() - 1;
+    let total = total_text(heap, lines, lines - faulty, faulty)?;
     all.push_str(total.as_str())?;
     Ok(Report { text: all, faulty })
 }

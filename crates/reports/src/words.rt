@@ -5,7 +5,7 @@ ghost use Rattle.std.specs.Of.String.{string-bytes};
 ghost use Rattle.std.specs.Vec.{made};
 ghost use Rattle.frames.specs.Outcome.{body};
 ghost use Rattle.frames.specs.Text.{byteDigits};
-ghost use Rattle.reports.specs.Words.{kindName, flawWords, frameWords, recordWords, pageWords, nodeText, faultText, frameText};
+ghost use Rattle.reports.specs.Words.{kindName, flawWords, frameWords, recordWords, pageWords, nodeText, faultPieces, faultText, framePieces, frameText};
 use frames::faults::FaultNumbers;
 use frames::faults::Flaw;
 use frames::faults::FrameFault;
@@ -92,7 +92,10 @@ fn record_words(heap: Global, fault: &RecordFault) -> Result<String, AllocError>
             String::from_str(heap, "equal children, or an earlier node again")
         }
         RecordFault::BadPin { .. } => {
-            String::from_str(heap, "a pin is no input, earlier cell or FF, or is used after FF")
+            String::from_str(
+                heap,
+                "a pin is no input, earlier cell or FF, or is used after FF",
+            )
         }
     }
 }
@@ -120,17 +123,45 @@ fn node_text(heap: Global, node: usize) -> Result<String, AllocError>
     format!(heap, ", node {node}")
 }
 
+/// The text of a fault, from its numbers and the words for its node and for what is wrong.
+fn fault_pieces(
+    heap: Global,
+    numbers: &FaultNumbers,
+    node: &str,
+    words: &str,
+) -> Result<String, AllocError>
+    ensures { λ r. ⌜ made r (λ s. string-bytes s ≡ faultPieces (now (numbers .entry)) (now (node .entry)) (now (words .entry))) ⌝ }
+{
+    let line = numbers.line;
+    let layer = numbers.layer;
+    let cause = numbers.cause;
+    format!(
+        heap,
+        "line {line}: layer {layer}, cause {cause}{node}: {words}"
+    )
+}
+
 /// A fault in words: its line, layer, cause and node, and what is wrong.
 pub fn fault_text(heap: Global, fault: &PageFault) -> Result<String, AllocError>
     ensures { λ r. ⌜ made r (λ s. string-bytes s ≡ faultText (now (fault .entry))) ⌝ }
 {
     let numbers = fault.numbers();
-    let line = numbers.line;
-    let layer = numbers.layer;
-    let cause = numbers.cause;
     let node = node_text(heap, numbers.node)?;
     let words = page_words(heap, fault)?;
-    format!(heap, "line {line}: layer {layer}, cause {cause}{node}: {words}")
+    fault_pieces(heap, &numbers, node.as_str(), words.as_str())
+}
+
+/// The text of a good frame, from its line, its kind's digits, its byte count and its kind's name.
+fn frame_pieces(
+    heap: Global,
+    line: usize,
+    kind: &str,
+    count: usize,
+    name: &str,
+) -> Result<String, AllocError>
+    ensures { λ r. ⌜ made r (λ s. string-bytes s ≡ framePieces line (now (kind .entry)) count (now (name .entry))) ⌝ }
+{
+    format!(heap, "line {line}: kind {kind}, {count} bytes: {name}")
 }
 
 /// A good frame in words: its line, kind, byte count and what the kind is called.
@@ -138,7 +169,6 @@ pub fn frame_text(heap: Global, line: usize, frame: &Frame) -> Result<String, Al
     ensures { λ r. ⌜ made r (λ s. string-bytes s ≡ frameText line (body (now (frame .entry)))) ⌝ }
 {
     let kind = byte_text(heap, frame.kind())?;
-    let count = frame.len();
     let name = kind_name(Kind::of(frame.kind()));
-    format!(heap, "line {line}: kind {kind}, {count} bytes: {name}")
+    frame_pieces(heap, line, kind.as_str(), frame.len(), name)
 }

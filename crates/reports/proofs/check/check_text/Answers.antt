@@ -14,7 +14,7 @@ use Rattle.frames.proofs.Lines.{less-left, some-left}
 use Rattle.frames.proofs.RoundTrip.{end-read}
 use Rattle.reports.specs.declared.check.LineReport.{LineReport}
 use Rattle.reports.specs.Checked.{LineRead, LineFound, outcomeText, isFault}
-use Rattle.reports.proofs.Run.{so-far-none, so-far-more, so-far-all, few-faulty, some-line}
+use Rattle.reports.proofs.Run.{so-far-none, so-far-more, so-far-all, few-faulty, fewer-faulty, some-line}
 use Rattle.reports.proofs.check.check_text.Needs as need
 use Rattle.reports.proofs.check.check_text.Needs.{then-line, else-line}
 
@@ -64,16 +64,23 @@ loop-all-again c =
 stays : (before after : FrameReader) → reading (left before) (before .line) ≡ end → Moved before after → after .line ≡ before .line
 stays before after e moved = moved .line ∙ ap (λ (xs : List ℕ). lineAfter xs (before .line)) (end-read (left before) (before .line) e)
 
-pub sub-line : need.sub-line
-sub-line c =
+pub sub-lines : need.sub-lines
+sub-lines c =
     let ended = found-end (c .loop-all .reader) _ (c .in-rest .not-Some) (c .in-Continue-line .ensures tt .found) in
     let same = stays (c .loop-all .reader) (c .next-line .last .reader) ended (c .in-Continue-line .ensures tt .moved) in
     let some = some-line (c .loop-all .inv) in
+    omega arith
+
+pub sub-lines-2 : need.sub-lines-2
+sub-lines-2 c =
+    let ended = found-end (c .loop-all .reader) _ (c .in-rest .not-Some) (c .in-Continue-line .ensures tt .found) in
+    let same = stays (c .loop-all .reader) (c .next-line .last .reader) ended (c .in-Continue-line .ensures tt .moved) in
+    let few = fewer-faulty (c .loop-all .inv) in
     omega arith
 
 pub returns : need.returns
 returns c =
     let ended = found-end (c .loop-all .reader) _ (c .in-rest .not-Some) (c .in-Continue-line .ensures tt .found) in
     let same = stays (c .loop-all .reader) (c .next-line .last .reader) ended (c .in-Continue-line .ensures tt .moved) in
-    so-far-all (c .loop-all .inv) ended _ (c .line .result - 1) (ap (λ (k : ℕ). k - 1) (c .line .ensures ∙ same))
+    so-far-all (c .loop-all .inv) ended _ (c .line-lines .result - 1) (c .line-lines .result - 1 - c .loop-all .faulty) (ap (λ (k : ℕ). k - 1) (c .line-lines .ensures ∙ same)) refl
     (c .in-Continue-push-str-2 .ensures tt .bytes ∙ ap (λ (t : List ℕ). string-bytes (c .loop-all .all) ++ t) (c .as-str-2 .ensures .value ∙ c .in-Continue-total .ensures tt)) refl

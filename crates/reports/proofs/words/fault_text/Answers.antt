@@ -12,6 +12,6 @@ pub returns : need.returns
 returns c =
     let fault = c .args .fault .now in
     let numbers : c .numbers-numbers .result ≡ pageNumbers fault = c .numbers-numbers .ensures in
-    let node : string-bytes (c .in-Continue-node .node) ≡ nodeText (pageNumbers fault .node) = c .in-Continue-node .ensures tt ∙ ap (λ (w : FaultNumbers). nodeText (w .node)) numbers in
-    let words : string-bytes (c .in-Continue-words .words) ≡ pageWords fault = c .in-Continue-words .ensures tt in
-    made-as _ _ _ (λ i. faultPieces (numbers i) (node i) (words i)) (c .format .ensures .made)
+    let node : c .as-str .result .now ≡ nodeText (pageNumbers fault .node) = c .as-str .ensures .value ∙ c .in-Continue-node .ensures tt ∙ ap (λ (w : FaultNumbers). nodeText (w .node)) numbers in
+    let words : c .as-str-2 .result .now ≡ pageWords fault = c .as-str-2 .ensures .value ∙ c .in-Continue-words .ensures tt in
+    made-as _ _ _ (λ i. faultPieces (numbers i) (node i) (words i)) (c .fault-pieces .ensures)

@@ -13,7 +13,7 @@ use Rattle.reports.proofs.words.frame_text.Needs as need
 pub returns : need.returns
 returns c =
     let bs = body (c .args .frame .now) in
-    let kind : string-bytes (c .in-Continue-kind .kind) ≡ byteDigits (getD bs 0 0) = c .in-Continue-kind .ensures tt ∙ ap byteDigits (c .kind .ensures) in
-    let count : c .len-count .result ≡ length bs = c .len-count .ensures .value in
+    let kind : c .as-str .result .now ≡ byteDigits (getD bs 0 0) = c .as-str .ensures .value ∙ c .in-Continue-kind .ensures tt ∙ ap byteDigits (c .kind .ensures) in
+    let count : c .len .result ≡ length bs = c .len .ensures .value in
     let name : c .kind-name-name .result .now ≡ kindName (kindOf (getD bs 0 0)) = c .kind-name-name .ensures ∙ ap kindName (c .of .ensures .value) ∙ ap (λ (b : ℕ). kindName (kindOf b)) (c .kind-2 .ensures) in
-    made-as _ _ _ (λ i. framePieces (c .args .line) (kind i) (count i) (name i)) (c .format .ensures .made)
+    made-as _ _ _ (λ i. framePieces (c .args .line) (kind i) (count i) (name i)) (c .frame-pieces .ensures)
