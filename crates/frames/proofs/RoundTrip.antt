@@ -21,7 +21,7 @@ use Rattle.frames.specs.declared.faults.FrameFault.the-variants.{Malformed, Wr
 use Rattle.frames.specs.Numbers.{numbers}
 use Rattle.frames.specs.Text.{Sized, Good, Bytes, hexDigit, digitValue, byteDigits, hex, lineText, text, sealing, paired, bytesOf, bounded, width}
 use Rattle.frames.specs.Outcome.{body, Outcome, frame, end, fault, flawOf, summed, judged, lineOutcome, reading, past, lineAfter}
-use Rattle.frames.specs.Laws.{Sound, Begins, Tells, none, good, summed as wrong-sum, malformed, Reading-tells, Reads, done, more, Written-reads, Read-is-written}
+use Rattle.frames.specs.Laws.{Sound, Begins, Tells, none, good, summed as wrong-sum, malformed, Reading-tells, Line-reads, Reads, done, more, Written-reads, Read-is-written}
 use Rattle.frames.proofs.Digits.{bounded-some}
 use Rattle.frames.proofs.Lines.{reading-more}
 use Rattle.frames.proofs.Flaws.{flaw-shows}
@@ -134,6 +134,9 @@ module _ (bs rest : List ℕ) where
       let t : take (width xs) xs ≡ hex bs = ap (λ (k : ℕ). take k xs) w ∙ take-at (hex bs) (10 ∷ rest) (length (hex bs)) refl in
       let b : bounded (bytesOf (hex bs)) ≡ Some bs = ap bounded (bytes-hex bs (all-from-bytes bs small)) ∙ bounded-some bs (sized .0) (sized .1) in
       ap (λ (x : List ℕ). reading x line) line-split ∙ a ∙ ap (lineOutcome line) t ∙ ap (judged line (hex bs)) b
+
+pub line-reads : Line-reads
+line-reads bs rest line sized small = (read-line bs rest line sized small, past-line bs rest)
 
 pub read-good : (f rest : List ℕ) (line : ℕ) → Sound f → reading (lineText f ++ rest) line ≡ frame f
 read-good f rest line ((sized, sum-ok), small) = read-line f rest line sized small ∙ cond-true _ _ _ (eq-eqb (sum f % 256) 0 sum-ok)

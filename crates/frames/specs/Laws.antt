@@ -10,7 +10,7 @@ use Rattle.frames.specs.declared.faults.Flaw.the-variants.{NoEnd, Character, O
 use Rattle.frames.specs.declared.faults.FrameFault.the-variants.{Malformed, WrongSum}
 use Rattle.frames.specs.Text.{Sized, Good, Bytes, digitValue, width, lineText, text}
 use Rattle.frames.specs.Numbers.{numbers}
-use Rattle.frames.specs.Outcome.{Outcome, frame, end, fault, reading, past, lineAfter}
+use Rattle.frames.specs.Outcome.{Outcome, frame, end, fault, summed as bySum, reading, past, lineAfter}
 
 -- a good frame of bytes
 abbrev pub Sound : List ℕ → Type 0
@@ -43,6 +43,11 @@ pub data Tells (xs : List ℕ) (line : ℕ) : Outcome → Type 0 where
 -- every list of bytes reads as what it is, at any line
 abbrev pub Reading-tells : Type 0
 Reading-tells = (xs : List ℕ) (line : ℕ) → Tells xs line (reading xs line)
+
+-- a text that begins with the line of 2 to 24 bytes reads as those bytes or their wrong sum, and what follows is left
+abbrev pub Line-reads : Type 0
+Line-reads =
+    (bs rest : List ℕ) (line : ℕ) → Sized bs → Bytes bs → (reading (lineText bs ++ rest) line ≡ bySum line bs) × (past (lineText bs ++ rest) ≡ rest)
 
 -- a text, read from a line on, gives these frames in order and then its end
 pub data Reads : List ℕ → ℕ → List (List ℕ) → Type 0 where

@@ -6,7 +6,7 @@ ghost use Prim.Native.Nat.{_+_, _*_, _/_, _%_, _≤_};
 ghost use lib.Dec.{leb};
 ghost use lib.ListN.{length, set, take};
 ghost use Rattle.std.specs.Vec.{made};
-ghost use Rattle.frames.specs.Laws.{Reads, Reading-tells, Written-reads, Read-is-written};
+ghost use Rattle.frames.specs.Laws.{Reads, Reading-tells, Line-reads, Written-reads, Read-is-written};
 ghost use Rattle.frames.specs.Outcome.{body};
 ghost use Rattle.frames.specs.Text.{hexDigit, lineText, placed};
 ghost use Rattle.frames.specs.Writing.{refusalNumber, textOf, Wrote};
@@ -84,7 +84,7 @@ fn fits(frames: &[Frame], room: usize) -> bool
 pub fn write_frames(frames: &[Frame], out: &mut [u8]) -> Result<usize, WriteRefusal>
     ensures wrote { λ r. ⌜ Wrote (textOf (now (frames .entry))) (now (out .entry)) (now (out .exit)) r ⌝ }
     ensures reads { λ r. ⌜ made r (λ n. Reads (take n (now (out .exit))) 1 (map body (now (frames .entry)))) ⌝ }
-    ensures law { λ _. ⌜ Reading-tells ⌝ ∗ ⌜ Written-reads ⌝ ∗ ⌜ Read-is-written ⌝ }
+    ensures law { λ _. ⌜ Reading-tells × Line-reads ⌝ ∗ ⌜ Written-reads × Read-is-written ⌝ }
 {
     if !fits(frames, out.len()) {
         return Err(WriteRefusal::TooShort);

@@ -11,7 +11,7 @@ use Rattle.frames.specs.Outcome.{body}
 use Rattle.frames.specs.Text.{lineText, placed, over}
 use Rattle.frames.specs.Writing.{textOf}
 use Rattle.frames.proofs.Buffers.{text-more, text-room, over-placed}
-use Rattle.frames.proofs.RoundTrip.{reading-tells, written-reads, read-is-written, sound-all}
+use Rattle.frames.proofs.RoundTrip.{reading-tells, line-reads, written-reads, read-is-written, sound-all}
 use Rattle.frames.proofs.writer.write_frames.Needs as need
 
 pub put-line-at-requires : need.put-line-at-requires
@@ -48,7 +48,7 @@ returns c =
     record {
       wrote = (leb-true _ _ (sym (c .if-not-fits .ensures tt)), n, o);
       reads = rw t (written-reads (map body fs) 1 (sound-all fs));
-      law = (reading-tells, (written-reads, read-is-written));
+      law = ((reading-tells, line-reads), (written-reads, read-is-written));
     }
 
 pub returns-then-not-fits : need.returns-then-not-fits
@@ -56,5 +56,5 @@ returns-then-not-fits c =
     record {
       wrote = search needs;
       reads = tt;
-      law = (reading-tells, (written-reads, read-is-written));
+      law = ((reading-tells, line-reads), (written-reads, read-is-written));
     }
