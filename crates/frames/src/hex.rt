@@ -6,7 +6,7 @@ ghost use Prim.Native.Nat.{_%_, _<_, _≤_};
 ghost use lib.ListN.{length, take};
 ghost use Rattle.std.specs.Options.{Cases as BySome, mapped};
 ghost use Rattle.std.specs.shelf.Lists.{sum};
-ghost use Rattle.frames.specs.Text.{hexDigit, digitValue, byteDigits, bytesOf, bounded, digitRun};
+ghost use Rattle.frames.specs.Text.{hexDigit, digitValue, byteDigits, bytesOf, bounded, digitRun, sealing};
 
 /// The number that a digit, 0 to 9 or A to F, writes; none for any other character.
 pub fn digit_value(c: u8) -> Option<u8>
@@ -44,6 +44,13 @@ pub fn sum_of(bytes: &[u8]) -> u8
         total = total.wrapping_add(*b);
     }
     total
+}
+
+/// The byte that makes the sum of a frame's content and itself a multiple of 256.
+pub fn sealing_byte(content: &[u8]) -> u8
+    ensures { λ r. ⌜ r ≡ sealing (now (content .entry)) ⌝ }
+{
+    0u8.wrapping_sub(sum_of(content))
 }
 
 /// How many digits come before the first other character.

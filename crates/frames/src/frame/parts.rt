@@ -11,6 +11,7 @@ use crate::faults::Flaw;
 use crate::faults::FrameFault;
 use crate::hex::bytes_into;
 use crate::hex::digit_run;
+use crate::hex::sealing_byte;
 use crate::hex::sum_of;
 
 impl Frame {
@@ -44,7 +45,7 @@ impl Frame {
         if count < 1 || count > 23 {
             return None;
         }
-        let last = 0u8.wrapping_sub(sum_of(content));
+        let last = sealing_byte(content);
         let mut bytes = [0u8; 24];
         bytes[0..count].copy_from_slice(content);
         bytes[count] = last;

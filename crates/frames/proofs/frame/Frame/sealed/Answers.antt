@@ -1,15 +1,13 @@
 use native.Mathlib.Omega.{arith}
 use mathlib.Core.Path.{_≡_, sym, subst}
-use Prim.Native.Nat.{ℕ, _+_, _-_, _%_}
-use Rattle.frames.specs.Text.{Good, Bytes, sealing}
+use Rattle.frames.specs.Text.{Good, Bytes}
 use Rattle.frames.proofs.Seals.{sealed-array, sealed-good, sealed-bytes}
 use Rattle.frames.proofs.frame.Frame.sealed.Needs as need
 
 pub ghost-result : need.ghost-result
 ghost-result c =
     let cs = c .args .content .now in
-    let ea : (0 + (256 - c .sum-of-last .result)) % 256 ≡ sealing cs = omega arith in
-    let e = sealed-array (c .copy-from-slice .last .self) cs ((0 + (256 - c .sum-of-last .result)) % 256) (c .copy-from-slice .ensures .after) (omega arith) ea in (
+    let e = sealed-array (c .copy-from-slice .last .self) cs (c .sealing-byte-last .result) (c .copy-from-slice .ensures .after) (omega arith) (c .sealing-byte-last .ensures) in (
       omega arith,
       (
         subst Good (sym e) (sealed-good cs (omega arith) (omega arith)),
@@ -20,5 +18,4 @@ ghost-result c =
 pub returns : need.returns
 returns c =
     let cs = c .args .content .now in
-    let ea : (0 + (256 - c .sum-of-last .result)) % 256 ≡ sealing cs = omega arith in
-    (omega arith, omega arith, sealed-array (c .copy-from-slice .last .self) cs ((0 + (256 - c .sum-of-last .result)) % 256) (c .copy-from-slice .ensures .after) (omega arith) ea)
+    (omega arith, omega arith, sealed-array (c .copy-from-slice .last .self) cs (c .sealing-byte-last .result) (c .copy-from-slice .ensures .after) (omega arith) (c .sealing-byte-last .ensures))
