@@ -1,0 +1,11 @@
+pub mod Laws
+pub mod Refusals
+pub mod Changes
+pub mod Walks
+pub mod ClassLists
+pub mod Numbering
+pub mod Stretches
+pub mod Tables
+pub mod BitCharts
+pub mod BitLaws
+pub mod InvertingLaws
