@@ -5,3 +5,4 @@ pub mod Due
 pub mod Seals
 pub mod Buffers
 pub mod RoundTrip
+pub mod Forms

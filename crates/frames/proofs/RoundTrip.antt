@@ -219,6 +219,9 @@ end-told xs line end (none e) q = e
 end-told xs line (frame g) t q = let z : _≡_ {A = ℕ} 0 1 = cc in absurd (omega arith)
 end-told xs line (fault n e) t q = let z : _≡_ {A = ℕ} 0 1 = cc in absurd (omega arith)
 
+pub frame-read : (xs : List ℕ) (line : ℕ) (f : List ℕ) → reading xs line ≡ frame f → (xs ≡ lineText f ++ past xs) × Sound f
+frame-read xs line f e = frame-told xs line (reading xs line) f (reading-tells xs line) e
+
 pub end-read : (xs : List ℕ) (line : ℕ) → reading xs line ≡ end → xs ≡ []
 end-read xs line e = end-told xs line (reading xs line) (reading-tells xs line) e
 
@@ -231,7 +234,7 @@ written-reads (f ∷ fs) line (sound, h) =
 pub read-is-written : Read-is-written
 read-is-written [] line xs (done e) = (end-read xs line e, tt)
 read-is-written (f ∷ fs) line xs (more e r) =
-    let h = frame-told xs line (reading xs line) f (reading-tells xs line) e in
+    let h = frame-read xs line f e in
     let t = read-is-written fs (lineAfter xs line) (past xs) r in
     (h .0 ∙ ap (λ (ys : List ℕ). lineText f ++ ys) (t .0), (h .1, t .1))
 

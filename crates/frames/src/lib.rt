@@ -5,4 +5,5 @@ pub mod frame;
 pub mod hex;
 pub mod kinds;
 pub mod reader;
+pub mod records;
 pub mod writer;

@@ -1,0 +1,4 @@
+pub mod Table
+pub mod Page
+pub mod Written
+pub mod Calls
