@@ -96,6 +96,61 @@ mod tests {
         check(chart.end(chart.step(7, walk(&chart, 2, 3), false)))
     }
 
+    // Three distinct columns, 1100, 1011 and 1010, with x0, x1 and x2 bound.
+    const FIVE: &[u8; 32] = b"11001011110010101100101010101011";
+    // Whether two numbers of two bits are equal: a1, a2, b1, b2.
+    const COMPARED: &[u8; 16] = b"1000010000100001";
+
+    // The chart of a function whose values stand as digits.
+    fn of_digits(n: usize, digits: &[u8]) -> Option<BitChart> {
+        let mut entries = [false; 32];
+        for (entry, digit) in entries.iter_mut().zip(digits.iter()) {
+            *entry = *digit == b'1';
+        }
+        if digits.len() > 32 {
+            return None;
+        }
+        BitChart::with_entries(n, &entries[0..digits.len()])
+    }
+
+    #[test]
+    fn known_class_counts() -> Result<(), Fail> {
+        let Some(five) = of_digits(5, FIVE) else {
+            return Err(Fail::new("five inputs refused"));
+        };
+        for (a, digit) in FIVE.iter().enumerate() {
+            check_eq(value_at(&five, a), *digit == b'1')?;
+        }
+        let mut strip = [five.top(); 8];
+        check_eq(number_classes(&five, 3, &mut strip), Some(3))?;
+        check(five.same(3, walk(&five, 3, 0), walk(&five, 3, 4)))?;
+        check(!five.same(3, walk(&five, 3, 1), walk(&five, 3, 3)))?;
+        let Some(mut compared) = of_digits(4, COMPARED) else {
+            return Err(Fail::new("four inputs refused"));
+        };
+        check_eq(number_classes(&compared, 2, &mut strip), Some(4))?;
+        check_eq(number(compared.swap(1)), 0)?;
+        check_eq(number_classes(&compared, 2, &mut strip), Some(2))
+    }
+
+    #[test]
+    fn largest_numbers() -> Result<(), Fail> {
+        let Some(mut chart) = of_digits(5, FIVE) else {
+            return Err(Fail::new("refused"));
+        };
+        let most = usize::MAX;
+        let top = chart.top();
+        let mut strip = [top; 2];
+        check(chart.same(0, chart.step(most, top, true), top))?;
+        let first = BitChart::empty().top();
+        check(!chart.end(top) && chart.end(first) && !chart.same(most, top, first))?;
+        check_eq(number_classes(&chart, most, &mut strip), None)?;
+        check_eq(number(chart.recode(most, 1, &[top], &[0, 0])), 11)?;
+        check_eq(number(chart.recode(0, most, &[top], &[0])), 11)?;
+        check_eq(number(chart.recode(0, 1, &[top], &[0, most])), 11)?;
+        check(BitChart::with_entries(most, &[]).is_none())
+    }
+
     #[test]
     fn recodes_need_places() -> Result<(), Fail> {
         let Some(mut chart) = pairs() else {

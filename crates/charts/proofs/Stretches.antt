@@ -60,21 +60,15 @@ filled-more n t xs v h is was = record {
       (rw getD-set-same is);
 }
 
-not-equal : (a b : Bool) → not (Bool·beq a b) ≡ true → a ≡ b → ⊥
-not-equal true true h e = both-ways false refl h
-not-equal true false h e = both-ways true e refl
-not-equal false true h e = both-ways true (sym e) refl
-not-equal false false h e = both-ways false refl h
-
 -- two stretches with the same entries mean the same, and no others
 module _ (m : ℕ) (table : List Bool) (d k : ℕ) (left : k ≡ m - d) (a b : Stretch) where
   pub entries-same : ((i : ℕ) → i < 2 ^ k → entry-of m table k a i ≡ entry-of m table k b i) → true ≡ same-fn (stretch-column m table d a) (stretch-column m table d b)
   entries-same h = rw (← left, tree-same k (entry-of m table k a) (entry-of m table k b) h) (sym (same-self (tree k (entry-of m table k b))))
 
-  pub entries-differ : (i : ℕ) (v w : Bool) → i < 2 ^ k → v ≡ entry-of m table k a i → w ≡ entry-of m table k b i → not (Bool·beq v w) ≡ true → false ≡ same-fn (stretch-column m table d a) (stretch-column m table d b)
-  entries-differ i v w h va wb ne = elim (cases-bool (same-fn (stretch-column m table d a) (stretch-column m table d b))) [
+  pub entries-differ : (i : ℕ) → i < 2 ^ k → (entry-of m table k a i ≡ entry-of m table k b i → ⊥) → false ≡ same-fn (stretch-column m table d a) (stretch-column m table d b)
+  entries-differ i h ne = elim (cases-bool (same-fn (stretch-column m table d a) (stretch-column m table d b))) [
     | inl e ↦
         let same : tree k (entry-of m table k a) ≡ tree k (entry-of m table k b) = rw (← left) at (same-sound (stretch-column m table d a) (stretch-column m table d b) e) in
-        absurd (not-equal v w ne (va ∙ tree-entries k (entry-of m table k a) (entry-of m table k b) same i h ∙ sym wb))
+        absurd (ne (tree-entries k (entry-of m table k a) (entry-of m table k b) same i h))
     | inr e ↦ sym e
   ]

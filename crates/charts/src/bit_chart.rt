@@ -2,6 +2,7 @@ ghost use mathlib.Core.Path.{_≡_};
 ghost use mathlib.Core.Bool.{false};
 ghost use Prim.Native.Nat.{ℕ, _+_, _-_, _/_, _^_, _<_, _≤_};
 ghost use lib.ListN.{length, getD};
+ghost use Rattle.std.specs.Orderings.{Decides};
 ghost use Rattle.functions.specs.Functions.{bit};
 ghost use Rattle.charts.specs.Stretches.{there, entry-of, stretch-column, all-of, onward};
 ghost use Rattle.charts.specs.Tables.{Filled, source-of, exchanged-entry, row-entry};
@@ -82,6 +83,15 @@ impl BitChart {
         } else {
             false
         }
+    }
+
+    /// Whether two places of `k` arguments have the same entry `i`.
+    fn agree(&self, k: usize, a: Stretch, b: Stretch, i: usize) -> bool
+        requires within { ⌜ k ≤ now self .count ⌝ }
+        requires inside { ⌜ i < 2 ^ k ⌝ }
+        ensures { λ r. ⌜ Decides r (entry-of (now (self .entry) .count) (now (self .entry) .table) k a i ≡ entry-of (now (self .entry) .count) (now (self .entry) .table) k b i) ⌝ }
+    {
+        self.entry(k, a, i) == self.entry(k, b, i)
     }
 
     /// How many arguments are left at a depth.
@@ -178,7 +188,7 @@ pub impl Chart for BitChart as BitTable {
     fn same(&self, depth: usize, a: Stretch, b: Stretch) -> bool {
         let k = self.left(depth);
         for i in 0..power(k) {
-            if self.entry(k, a, i) != self.entry(k, b, i) {
+            if !self.agree(k, a, b, i) {
                 return false;
             }
         }
