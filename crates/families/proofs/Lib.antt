@@ -1,0 +1,3 @@
+pub mod TableEntries
+pub mod Assignments
+pub mod ReadBack

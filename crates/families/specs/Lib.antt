@@ -1,0 +1,10 @@
+pub mod Tables
+pub mod Words
+pub mod Packing
+pub mod Laws
+pub mod Widening
+pub mod Single
+pub mod Joined
+pub mod Entries
+pub mod SingleLaws
+pub mod JoinedLaws
