@@ -1,0 +1,13 @@
+pub mod Canonical
+pub mod Indexes
+pub mod Grown
+pub mod Counting
+pub mod Exact
+pub mod Making
+pub mod Marking
+pub mod Rebuilding
+pub mod Swapping
+pub mod Topping
+pub mod Shifting
+pub mod Unique
+pub mod Charting

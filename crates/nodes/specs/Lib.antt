@@ -1,0 +1,9 @@
+pub mod Diagrams
+pub mod Sizes
+pub mod Stores
+pub mod Marks
+pub mod Exchanges
+pub mod Recodes
+pub mod NodeCharts
+pub mod NodeLaws
+pub mod Laws
