@@ -1,4 +1,5 @@
 //! Trials of the code rules and the cell families, and a family of their own.
+#![tactic(auto)]
 
 pub mod turned;
 

@@ -1,4 +1,6 @@
 //! Charts on small functions.
+#![tactic(auto)]
+
 ghost use Rattle.std.specs.Prelude.{◌≡◌};
 ghost use Rattle.functions.specs.Words.{bits};
 ghost use Rattle.functions.specs.Functions.{value};

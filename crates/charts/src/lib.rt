@@ -1,5 +1,7 @@
 //! Charts: places in a Boolean function, stepped through argument by argument.
 //! The trait, a chart by table, the negation of any chart, and the numbering of a chart's classes.
+#![tactic(auto)]
+
 mod bit_chart;
 mod bits;
 mod chart;

@@ -1,4 +1,5 @@
 //! checkframes: reads frames from the standard input, and says of each line what it is or what is wrong with it.
+#![tactic(auto)]
 
 use anyhow::anyhow;
 use reports::check::check_text;

@@ -1,4 +1,5 @@
 //! countclasses: reads a bit page from the standard input, and says how many classes its function has at each width.
+#![tactic(auto)]
 
 use anyhow::anyhow;
 use bitpages::filling::load_chart;

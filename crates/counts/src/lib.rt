@@ -1,4 +1,5 @@
 //! How many classes a function has at each width of its first arguments, in words.
+#![tactic(auto)]
 
 ghost use Rattle.std.specs.Prelude.{◌≡◌, IfOk, vec_len, string_bytes};
 ghost use Rattle.charts.specs.Walks.{chart_function};

@@ -1,4 +1,5 @@
 //! Designs: a function in a chart is split, cell by cell, into a network.
+#![tactic(auto)]
 
 mod cell;
 mod closing;

@@ -1,4 +1,5 @@
 //! Cell families: how the table of a cell is packed into configuration bytes, and what such bytes mean.
+#![tactic(auto)]
 
 pub mod family;
 pub mod joined;

@@ -1,4 +1,5 @@
 //! Examples of frames that are read, written and reported on, as tests.
+#![tactic(auto)]
 
 #[cfg(test)]
 mod tests {

@@ -1,4 +1,5 @@
 //! Frames: lines of hexadecimal digits, read from and written to lent memory, and the faults of what is read.
+#![tactic(auto)]
 
 pub mod faults;
 pub mod frame;

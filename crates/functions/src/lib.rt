@@ -1,5 +1,7 @@
 //! The meaning of Boolean functions, columns, classes and decompositions.
 //! The definitions are in `specs/`; the contracts here are their laws.
+#![tactic(auto)]
+
 ghost use Rattle.std.specs.Prelude.{◌≡◌, ◌^◌, ◌<◌, ◌≤◌};
 ghost use Rattle.functions.specs.Decompositions.{DecompositionTheorem};
 ghost use Rattle.functions.specs.Laws.{WordLaws, ValueLaws, ArityLaws, NegationLaws, ColumnLaws, ClassLaws, ColumnClassLaws};

@@ -1,4 +1,5 @@
 //! The intake: networks of configured cells, read from their pages.
+#![tactic(auto)]
 
 pub mod cell;
 pub mod cells;

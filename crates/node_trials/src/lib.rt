@@ -1,4 +1,5 @@
 //! Node charts of known functions, as tests.
+#![tactic(auto)]
 
 #[cfg(test)]
 mod tests {

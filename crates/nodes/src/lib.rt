@@ -1,4 +1,6 @@
 //! Charts by reduced ordered diagrams of at most 1,024 nodes.
+#![tactic(auto)]
+
 mod crown;
 mod diagrams;
 mod draft;

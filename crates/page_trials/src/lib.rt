@@ -1,4 +1,5 @@
 //! Examples of bit pages that are read and written, as tests.
+#![tactic(auto)]
 
 #[cfg(test)]
 mod tests {

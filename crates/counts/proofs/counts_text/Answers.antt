@@ -11,7 +11,7 @@ loop-i-preserved g c =
     let said = string_bytes c.loop-i.text in
     elim c.match-branch-3.branch [
       | in-Some+in-ok-line+in-ok-push-str w ↦
-          width-more m c.loop-i.i f said c.loop-i.invariant c.in-ok-count.field-0 w.in-Some.count (string_bytes w.in-ok-line.line) _ w.in-Some.is c.in-ok-count.ensures w.in-ok-line.ensures
-          (ap string_bytes w.text-is ∙ w.in-ok-push-str.ensures.bytes ∙ ap (λ (t : List ℕ). said ++ t) w.as-str.ensures.value)
-      | in-default w ↦ width-none m c.loop-i.i f said c.loop-i.invariant c.in-ok-count.field-0 _ w.in-default.not-Some c.in-ok-count.ensures (omega arith) (ap string_bytes w.text-is)
+          width-more m c.loop-i.i f said c.loop-i.invariant c.in_ok-count.field-0 w.in-Some.count (string_bytes w.in_ok-line.line) _ w.in-Some.is c.in_ok-count.ensures w.in_ok-line.ensures
+          (ap string_bytes w.text-is ∙ w.in_ok-push_str.ensures.bytes ∙ ap (λ (t : List ℕ). said ++ t) w.as_str.ensures.value)
+      | in-default w ↦ width-none m c.loop-i.i f said c.loop-i.invariant c.in_ok-count.field-0 _ w.in-default.not-Some c.in_ok-count.ensures (omega arith) (ap string_bytes w.text-is)
     ]

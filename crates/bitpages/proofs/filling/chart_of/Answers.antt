@@ -18,7 +18,7 @@ module _ (n k : ℕ) (table : List Bool) (small : n ≤ 12) (is : k - 0 ≡ 2 ^ 
       l.1 ∙ tree-same n (λ i. get_or (take (k - 0) table) i false) (λ i. get_or table i false) (λ i b. get_or-take (k - 0) table i false (omega arith))
 
 pub unwrap-requires : goal.unwrap-requires
-unwrap-requires c = some_chart c.args.n c.entry-count.result c.args.table.now c.requires (omega (arith, c.entry-count.ensures.value)) (omega arith) c.with-entries.result c.with-entries.ensures
+unwrap-requires c = some_chart c.args.n c.entry_count.result c.args.table.now c.requires (omega (arith, c.entry_count.ensures.value)) (omega arith) c.with_entries.result c.with_entries.ensures
 
 pub returns : goal.returns
-returns c = its_function c.args.n c.entry-count.result c.args.table.now c.requires (omega (arith, c.entry-count.ensures.value)) (omega arith) c.with-entries.result c.unwrap.result c.unwrap.ensures c.with-entries.ensures
+returns c = its_function c.args.n c.entry_count.result c.args.table.now c.requires (omega (arith, c.entry_count.ensures.value)) (omega arith) c.with_entries.result c.unwrap.result c.unwrap.ensures c.with_entries.ensures

@@ -22,21 +22,21 @@ copied old es at s k long e room = (search (rules, places), take-put_mid at k ol
 pub loop-at-init : goal.loop-at-init
 loop-at-init c = (c.told-bytes, left_all c.args.n (left c.args.reader.now) c.args.reader.now.line)
 
-pub returns-in-err-frame : goal.returns-in-err-frame
-returns-in-err-frame c =
+pub returns-in_err-frame : goal.returns-in_err-frame
+returns-in_err-frame c =
     let p = err_from_is_err_and c.from-residual.result c.from-residual.ensures.1 in
-    let e = c.in-err-frame.field-0.0 in
-    let l = left-bad c.loop-at.invariant.1 (omega arith) (record_numbers e) e c.in-err-frame.ensures.answer in
+    let e = c.in_err-frame.field-0.0 in
+    let l = left-bad c.loop-at.invariant.1 (omega arith) (record_numbers e) e c.in_err-frame.ensures.answer in
     rw (p.1, p.2) l
 
 pub returns-in-default : goal.returns-in-default
 returns-in-default c =
-    let a = c.in-ok-frame.ensures.answer in
+    let a = c.in_ok-frame.ensures.answer in
     let g = rw c.in-default.is at a in
     rw c.line-line.ensures (left-gone c.loop-at.invariant.1 (omega arith) g)
 
-pub slice-bounds-copy-from-slice-end : goal.slice-bounds-copy-from-slice-end
-slice-bounds-copy-from-slice-end c =
+pub slice_bounds-copy_from_slice-end : goal.slice_bounds-copy_from_slice-end
+slice_bounds-copy_from_slice-end c =
     let room = left-room c.loop-at.invariant.1 (omega arith) in
     omega arith
 
@@ -47,16 +47,16 @@ loop-at-preserved c =
     let old = c.loop-at.bytes in
     let f = c.in-Some.frame in
     let room = left-room c.loop-at.invariant.1 (omega arith) in
-    let e = c.in-ok-frame.ensures in
+    let e = c.in_ok-frame.ensures in
     let ea = e.answer in
     let a : got (carried n (body f)) ≡ bits n (left c.loop-at.reader) c.loop-at.reader.line = rw c.in-Some.is at ea in
-    let s : c.share-of-share.result ≡ share n = c.share-of-share.ensures.value in
+    let s : c.share_of-share.result ≡ share n = c.share_of-share.ensures.value in
     let el = e.long in
     let long : length (body f) ≡ share n + 2 = rw c.in-Some.is at el in
-    let k : 1 + c.share-of-share.result - 1 ≡ share n = omega arith in
-    let es : c.copy-from-slice.new.self ≡ carried n (body f) = c.copy-from-slice.ensures.after ∙ ap (λ (k : ℕ). take k (drop 1 c.bytes.result.now)) k ∙ ap (carried n) c.bytes.ensures in
-    let l = left-got c.loop-at.invariant.1 (omega arith) (carried n (body f)) (left c.read-bits.new.reader) c.read-bits.new.reader.line a e.moved.rest e.moved.line in
-    let p = copied c.loop-at.bytes c.copy-from-slice.new.self c.loop-at.at c.share-of-share.result (c.loop-at.at + c.share-of-share.result - c.loop-at.at)
+    let k : 1 + c.share_of-share.result - 1 ≡ share n = omega arith in
+    let es : c.copy_from_slice.new.self ≡ carried n (body f) = c.copy_from_slice.ensures.after ∙ ap (λ (k : ℕ). take k (drop 1 c.bytes.result.now)) k ∙ ap (carried n) c.bytes.ensures in
+    let l = left-got c.loop-at.invariant.1 (omega arith) (carried n (body f)) (left c.read_bits.new.reader) c.read_bits.new.reader.line a e.moved.rest e.moved.line in
+    let p = copied c.loop-at.bytes c.copy_from_slice.new.self c.loop-at.at c.share_of-share.result (c.loop-at.at + c.share_of-share.result - c.loop-at.at)
     (ap length es ∙ length-carried n (body f) long ∙ sym s) (omega arith) (omega arith) in
     (p.0 ∙ c.loop-at.invariant.0, rw (p.1, es, s) l)
 

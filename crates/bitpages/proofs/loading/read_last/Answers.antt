@@ -14,13 +14,13 @@ no_frame (Some f) e = absurd (true≢false e)
 
 pub returns : goal.returns
 returns c =
-    let n = c.in-ok-n.n in
+    let n = c.in_ok-n.n in
     let xs = left c.args.reader.now in
     let line = c.args.reader.now.line in
-    let rest = left c.read-page.new.reader in
-    let after = c.read-page.new.reader.line in
-    let bytes = c.read-page.new.bytes in
-    let t = c.in-ok-n.ensures in
-    let g : gone ≡ anything rest after = no_frame c.in-ok-read-any.field-0 (sym c.is-some.ensures ∙ c.if-is-some.false) ∙ c.in-ok-read-any.ensures.answer in
-    let h = holds n xs bytes rest line after c.size-of.result c.unpack.new.table t.0 (omega (arith, c.size-of.ensures.value)) c.unpack.array_long c.unpack.ensures in
+    let rest = left c.read_page.new.reader in
+    let after = c.read_page.new.reader.line in
+    let bytes = c.read_page.new.bytes in
+    let t = c.in_ok-n.ensures in
+    let g : gone ≡ anything rest after = no_frame c.in_ok-read_any.field-0 (sym c.is_some.ensures ∙ c.if-is_some.false) ∙ c.in_ok-read_any.ensures.answer in
+    let h = holds n xs bytes rest line after c.size_of.result c.unpack.new.table t.0 (omega (arith, c.size_of.ensures.value)) c.unpack.array_long c.unpack.ensures in
     (after, (take (size n) bytes, last n xs (take (size n) bytes) rest line after t.0 g, h))

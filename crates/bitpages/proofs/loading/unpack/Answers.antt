@@ -10,7 +10,7 @@ pub loop-i-preserved : goal.loop-i-preserved
 loop-i-preserved c =
     let i = c.loop-i.i in
     let e : c.if-i-bytes.table ≡ entry_at c.args.bytes.now i = elim c.if-i-bytes.branch [
-      | then-i-bytes w ↦ w.table-is ∙ w.bit-of.ensures
+      | then-i-bytes w ↦ w.table-is ∙ w.bit_of.ensures
       | else-i-bytes w ↦ let past : length c.args.bytes.now ≤ i / 8 = omega arith in w.table-is ∙ le-ltb (i / 8) (length c.args.bytes.now) past ∙ sym (entry_at-past c.args.bytes.now i past)
     ] in
     let inside : i < length c.loop-i.table = omega arith in (

@@ -6,5 +6,5 @@ use Rattle.bitpages.proofs.records.size_of.Goals as goal
 pub returns : goal.returns
 returns c =
     let n = c.args.n in
-    let e : c.power.result ≡ size n = c.power.ensures.within (omega arith) ∙ ap (λ (k : ℕ). 2 ^ k) c.saturating-sub.ensures in
+    let e : c.power.result ≡ size n = c.power.ensures.within (omega arith) ∙ ap (λ (k : ℕ). 2 ^ k) c.saturating_sub.ensures in
     record { value = e; bound = (omega (arith, size_low n), omega (arith, size-high n (omega arith))) }

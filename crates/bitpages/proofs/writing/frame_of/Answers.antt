@@ -11,10 +11,10 @@ laid fs gs post a b e is =
     let k : length fs + 1 - 0 ≡ suc (length fs) = omega arith in
     ap (λ (k : ℕ). take k (a ∷ (gs ++ post))) k ∙ ap (λ (t : List ℕ). a ∷ t) (take_at gs post (length fs) (ap length e) ∙ e) ∙ ap (λ (x : ℕ). x ∷ fs) is
 
-pub slice-bounds-sealed-end : goal.slice-bounds-sealed-end
-slice-bounds-sealed-end c =
+pub slice_bounds-sealed-end : goal.slice_bounds-sealed-end
+slice_bounds-sealed-end c =
     let post : List ℕ = post_of 1 (length c.args.fields.now + 1 - 1) (replicate 23 c.byte-content.result) in
-    omega (arith, length-append c.copy-from-slice.new.self post, ap length c.copy-from-slice.ensures.after)
+    omega (arith, length-append c.copy_from_slice.new.self post, ap length c.copy_from_slice.ensures.after)
 
 pub returns : goal.returns
 returns c =
@@ -22,4 +22,4 @@ returns c =
     let post : List ℕ = post_of 1 (length fs + 1 - 1) (replicate 23 c.byte-content.result) in
     let h = c.sealed.ensures in
     let s = rw c.unwrap.ensures at h in
-    s.2 ∙ ap sealed (laid fs c.copy-from-slice.new.self post c.byte-content.result (kind_byte c.args.kind) c.copy-from-slice.ensures.after c.byte-content.ensures)
+    s.2 ∙ ap sealed (laid fs c.copy_from_slice.new.self post c.byte-content.result (kind_byte c.args.kind) c.copy_from_slice.ensures.after c.byte-content.ensures)

@@ -16,7 +16,7 @@ loop-t-preserved g c =
     let made = code_cells code c.args.j ps ns t in
     let new = cell ps (number_table code c.args.j ns t) in (
       c.add.ensures.cells
-          ∙ ap (λ w. cells_of c.loop-t.netlist ++ (cell ps w ∷ [])) c.code-table-table.ensures
+          ∙ ap (λ w. cells_of c.loop-t.netlist ++ (cell ps w ∷ [])) c.code_table-table.ensures
           ∙ ap (λ cs. cs ++ (new ∷ [])) inv.0
           ∙ append_assoc old made (new ∷ [])
           ∙ ap (λ cs. old ++ cs) (sym (map-range_with_len_more (λ k. cell ps (number_table code c.args.j ns k)) 0 t t (omega arith))),

@@ -14,4 +14,4 @@ loop-e-preserved g c =
     let f = chart_function g.C.Chart c.args.chart.now in
     let inv = c.loop-e.invariant in
     let few = c.assignments-e-end.ensures.bound in
-    (length-set xs e _ ∙ inv.0, row_filled (λ k. class_of b f (bits b k)) xs e 0 c.class-at.result (omega arith) c.class-at.ensures inv.1)
+    (length-set xs e _ ∙ inv.0, row_filled (λ k. class_of b f (bits b k)) xs e 0 c.class_at.result (omega arith) c.class_at.ensures inv.1)

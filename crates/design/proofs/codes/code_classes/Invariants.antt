@@ -4,5 +4,5 @@ use Rattle.design.proofs.codes.code_classes.Given as goal
 
 abbrev pub invariant-loop-q : goal.invariant-loop-q
 invariant-loop-q g l =
-    (length l.class-of ≡ 16)
-    × ((k : ℕ) → k < l.q → get_or l.class-of k 0 ≡ holder (g.R.CodeRule.code l.rule l.j) k l.classes)
+    (length l.class_of ≡ 16)
+    × ((k : ℕ) → k < l.q → get_or l.class_of k 0 ≡ holder (g.R.CodeRule.code l.rule l.j) k l.classes)

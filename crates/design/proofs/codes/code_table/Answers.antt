@@ -8,5 +8,5 @@ returns g c =
     let j = c.args.j in
     let code = g.R.CodeRule.code c.args.rule.now in
     let inv = c.loop-e.invariant in
-    c.table-of.ensures
+    c.table_of.ensures
     ∙ row_table (λ k. eqb (code j (get_or ns k 0) / 2 ^ (j - 1 - c.args.t) % 2) 1) c.loop-e.entries (length ns) (length ns - 0) c.requires.short inv.0 refl (λ k l. inv.1 k (omega arith))

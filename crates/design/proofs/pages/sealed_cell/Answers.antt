@@ -9,10 +9,10 @@ loop-i-preserved c =
     let ps = c.args.pins.now in
     let cs = c.args.config.now in
     let l = length-append ps cs in
-    content_more 0x12 c.byte-at.result c.loop-i.i (ps ++ cs) c.loop-i.content (omega arith) (omega arith) c.loop-i.invariant c.byte-at.ensures
+    content_more 0x12 c.byte_at.result c.loop-i.i (ps ++ cs) c.loop-i.content (omega arith) (omega arith) c.loop-i.invariant c.byte_at.ensures
 
-pub slice-bounds-sealed-end : goal.slice-bounds-sealed-end
-slice-bounds-sealed-end c =
+pub slice_bounds-sealed-end : goal.slice_bounds-sealed-end
+slice_bounds-sealed-end c =
     let ps = c.args.pins.now in
     let cs = c.args.config.now in
     let front : List ℕ = 0x12 ∷ take c.loop-i.i (ps ++ cs) in

@@ -10,7 +10,7 @@ loop-i-preserved c =
     let i = c.loop-i.i in
     let inv = c.loop-i.invariant in (
       length-set xs i _ ∙ inv.0,
-      row_filled (live_signal c.args.live.now c.args.b c.args.j c.args.first) xs i 0 c.signal-after.result (omega arith) c.signal-after.ensures inv.1,
+      row_filled (live_signal c.args.live.now c.args.b c.args.j c.args.first) xs i 0 c.signal_after.result (omega arith) c.signal_after.ensures inv.1,
     )
 
 pub returns : goal.returns

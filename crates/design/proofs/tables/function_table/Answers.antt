@@ -16,7 +16,7 @@ loop-e-preserved g c =
     let f = chart_function g.C.Chart s in
     let inv = c.loop-e.invariant in
     let few = c.assignments-count.ensures.bound in
-    (length-set xs e _ ∙ inv.0, row_filled (λ k. value f (bits m k)) xs e _ c.value-at.result (omega arith) c.value-at.ensures inv.1)
+    (length-set xs e _ ∙ inv.0, row_filled (λ k. value f (bits m k)) xs e _ c.value_at.result (omega arith) c.value_at.ensures inv.1)
 
 pub returns : goal.returns
 returns g c =
@@ -26,6 +26,6 @@ returns g c =
     let n = c.assignments-count.result in
     let inv = c.loop-e.invariant in
     let few = c.assignments-count.ensures.bound in
-    c.table-of.ensures
+    c.table_of.ensures
     ∙ row_table (λ k. value f (bits m k)) c.loop-e.entries n (n - 0) few inv.0 (omega arith) (λ k l. inv.1 k (omega arith))
     ∙ ap (λ k. tabled k (λ e. value f (bits m e))) (c.assignments-count.ensures.value ∙ ap (λ k. 2 ^ k) c.count.ensures)

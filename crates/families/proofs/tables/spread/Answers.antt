@@ -3,8 +3,8 @@ use Rattle.families.specs.Tables.{entry_of}
 use Rattle.families.proofs.TableEntries.{tabled-below, tabled-more}
 use Rattle.families.proofs.tables.spread.Goals as goal
 
-pub with-entry-full-requires : goal.with-entry-full-requires
-with-entry-full-requires c =
+pub with_entry-full-requires : goal.with_entry-full-requires
+with_entry-full-requires c =
     let few : c.args.pins ≤ 5 = omega arith in
     let most : 2 ^ c.args.pins ≤ 32 = pow_mono few in
     record {

@@ -2,8 +2,8 @@ use Rattle.std.proofs.Common.{ℕ, ◌^◌, ◌<◌, false, get_or, sym, subst, 
 use Rattle.families.proofs.TableEntries.{tabled-below, tabled-more}
 use Rattle.families.proofs.tables.table_of.Goals as goal
 
-pub with-entry-table-requires : goal.with-entry-table-requires
-with-entry-table-requires c = record {
+pub with_entry-table-requires : goal.with_entry-table-requires
+with_entry-table-requires c = record {
   first = subst (λ (n : ℕ). n < 2 ^ c.loop-e.e) (sym c.loop-e.invariant) (tabled-below c.loop-e.e (λ e. get_or c.args.entries.now e false));
   inside = omega arith;
 }

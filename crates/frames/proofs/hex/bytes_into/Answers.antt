@@ -4,41 +4,41 @@ use Rattle.frames.specs.Text.{bytes_of, digit_value, bounded}
 use Rattle.frames.proofs.Digits.{byte_more, no_high, no_low, bytes_all, bounded-none, bytes_of-length}
 use Rattle.frames.proofs.hex.bytes_into.Goals as goal
 
-pub returns-then-not-writes-frame : goal.returns-then-not-writes-frame
-returns-then-not-writes-frame c =
+pub returns-then-not-writes_frame : goal.returns-then-not-writes_frame
+returns-then-not-writes_frame c =
     record {
-      value = sym (bounded-none (bytes_of c.args.digits.now) (λ bs e low high. let n = bytes_of-length c.args.digits.now bs e in c.if-not-writes-frame.ensures.no refl (omega arith) (omega arith) (omega arith)));
+      value = sym (bounded-none (bytes_of c.args.digits.now) (λ bs e low high. let n = bytes_of-length c.args.digits.now bs e in c.if-not-writes_frame.ensures.no refl (omega arith) (omega arith) (omega arith)));
       sized = tt;
     }
 
-pub returns-in-err-high : goal.returns-in-err-high
-returns-in-err-high c =
-    let w = c.if-not-writes-frame.ensures.yes refl in
-    let e = c.in-err-high.ensures.value in
+pub returns-in_err-high : goal.returns-in_err-high
+returns-in_err-high c =
+    let w = c.if-not-writes_frame.ensures.yes refl in
+    let e = c.in_err-high.ensures.value in
     let b = no_high c.args.digits.now (take c.loop-i.i c.loop-i.out) c.loop-i.i (omega arith) (sym e) in
     let all = c.loop-i.invariant.1 in
     let r = c.from-residual.ensures in
     rw r (record { value = cc (ap bounded (sym all ∙ b)); sized = tt })
 
-pub returns-in-err-low : goal.returns-in-err-low
-returns-in-err-low c =
-    let w = c.if-not-writes-frame.ensures.yes refl in
-    let e = c.in-err-low.ensures.value in
+pub returns-in_err-low : goal.returns-in_err-low
+returns-in_err-low c =
+    let w = c.if-not-writes_frame.ensures.yes refl in
+    let e = c.in_err-low.ensures.value in
     let b = no_low c.args.digits.now (take c.loop-i.i c.loop-i.out) c.loop-i.i (omega arith) (sym e) in
     let all = c.loop-i.invariant.1 in
-    let r = c.from-residual-in-err-low.ensures in
+    let r = c.from-residual-in_err-low.ensures in
     rw r (record { value = cc (ap bounded (sym all ∙ b)); sized = tt })
 
 pub loop-i-preserved : goal.loop-i-preserved
-loop-i-preserved c = let w = c.if-not-writes-frame.ensures.yes refl in (
+loop-i-preserved c = let w = c.if-not-writes_frame.ensures.yes refl in (
   length-set _ _ _ ∙ c.loop-i.invariant.0,
-  byte_more c.args.digits.now c.loop-i.out (bytes_of c.args.digits.now) c.loop-i.i c.in-ok-high.high c.in-ok-low.low
-      (omega arith) (omega (arith, c.loop-i.invariant.0)) (sym c.in-ok-high.ensures.value) (sym c.in-ok-low.ensures.value) c.loop-i.invariant.1,
+  byte_more c.args.digits.now c.loop-i.out (bytes_of c.args.digits.now) c.loop-i.i c.in_ok-high.high c.in_ok-low.low
+      (omega arith) (omega (arith, c.loop-i.invariant.0)) (sym c.in_ok-high.ensures.value) (sym c.in_ok-low.ensures.value) c.loop-i.invariant.1,
 )
 
 pub returns : goal.returns
 returns c =
-    let w = c.if-not-writes-frame.ensures.yes refl in
+    let w = c.if-not-writes_frame.ensures.yes refl in
     let e : c.loop-i.i ≡ length c.args.digits.now / 2 = omega arith in
     record {
       value = bytes_all c.args.digits.now c.loop-i.out (length c.args.digits.now / 2) (omega arith) (omega arith) (omega arith) (omega (arith, c.loop-i.invariant.0)) (rw e at c.loop-i.invariant.1);

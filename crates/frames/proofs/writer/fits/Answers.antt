@@ -8,12 +8,12 @@ use Rattle.frames.proofs.writer.fits.Goals as goal
 
 pub returns-then-spare-need : goal.returns-then-spare-need
 returns-then-spare-need c =
-    sym (left_no c.args.frames.now c.loop-frame.frame-index c.frame-item.result (omega arith) c.frame-item.is c.loop-frame.spare c.line-len-need.result c.line-len-need.ensures (omega arith))
+    sym (left_no c.args.frames.now c.loop-frame.frame-index c.frame-item.result (omega arith) c.frame-item.is c.loop-frame.spare c.line_len-need.result c.line_len-need.ensures (omega arith))
     ∙ c.loop-frame.invariant
 
 pub loop-frame-preserved : goal.loop-frame-preserved
 loop-frame-preserved c =
-    left_yes c.args.frames.now c.loop-frame.frame-index c.frame-item.result (omega arith) c.frame-item.is c.loop-frame.spare c.line-len-need.result c.line-len-need.ensures (omega arith)
+    left_yes c.args.frames.now c.loop-frame.frame-index c.frame-item.result (omega arith) c.frame-item.is c.loop-frame.spare c.line_len-need.result c.line_len-need.ensures (omega arith)
     ∙ c.loop-frame.invariant
 
 pub returns : goal.returns

@@ -10,7 +10,7 @@ loop-b-init c = (omega arith, placed-none c.args.out.now c.args.start)
 pub loop-b-preserved : goal.loop-b-preserved
 loop-b-preserved c = (
   omega (arith, c.loop-b.invariant.0),
-  c.put-byte.ensures ∙ two_placed c.args.out.now c.args.bytes.now c.args.start c.loop-b.b-index c.loop-b.at c.loop-b.out
+  c.put_byte.ensures ∙ two_placed c.args.out.now c.args.bytes.now c.args.start c.loop-b.b-index c.loop-b.at c.loop-b.out
       (omega arith) c.loop-b.invariant.0 (omega (arith, c.loop-b.invariant.0)) c.loop-b.invariant.1,
 )
 

@@ -9,8 +9,8 @@ use Rattle.frames.proofs.Buffers.{text-more, text-room, over-placed}
 use Rattle.frames.proofs.RoundTrip.{reading_tells, line_reads, written_reads, read_is_written, sound_all}
 use Rattle.frames.proofs.writer.write_frames.Goals as goal
 
-pub put-line-at-requires : goal.put-line-at-requires
-put-line-at-requires c =
+pub put_line-at-requires : goal.put_line-at-requires
+put_line-at-requires c =
     let room = text-room c.args.frames.now c.loop-frame.frame-index c.frame-item.result (omega arith) c.frame-item.is in
     let all = leb-true _ _ (sym c.if-not-fits.ensures) in
     let n = ap length c.bytes.ensures in
@@ -27,10 +27,10 @@ loop-frame-preserved c =
     let all = leb-true _ _ (sym c.if-not-fits.ensures) in
     let b : c.bytes.result.now ≡ body f = c.bytes.ensures in
     let at : c.loop-frame.at ≡ length (text_of (take i fs)) = c.loop-frame.invariant.0 in
-    let w : c.put-line-at.new.out ≡ placed c.loop-frame.out c.loop-frame.at (line_text c.bytes.result.now) = c.put-line-at.ensures.written in
-    let s : c.put-line-at.result ≡ c.loop-frame.at + length (line_text c.bytes.result.now) = c.put-line-at.ensures.stop in
+    let w : c.put_line-at.new.out ≡ placed c.loop-frame.out c.loop-frame.at (line_text c.bytes.result.now) = c.put_line-at.ensures.written in
+    let s : c.put_line-at.result ≡ c.loop-frame.at + length (line_text c.bytes.result.now) = c.put_line-at.ensures.stop in
     let n = length-append (text_of (take i fs)) (line_text (body f)) in
-    let m : c.put-line-at.new.out ≡ placed (over o (text_of (take i fs))) (length (text_of (take i fs))) (line_text (body f)) = cc c.loop-frame.invariant.1 in
+    let m : c.put_line-at.new.out ≡ placed (over o (text_of (take i fs))) (length (text_of (take i fs))) (line_text (body f)) = cc c.loop-frame.invariant.1 in
     ((cc), m ∙ over-placed o (text_of (take i fs)) (line_text (body f)) (omega arith) ∙ ap (over o) (sym t))
 
 pub returns : goal.returns

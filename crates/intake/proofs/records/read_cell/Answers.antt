@@ -17,19 +17,19 @@ module _ (o : Option Frame) (f : Frame) (bs : List ℕ) (some : o ≡ Some f) (i
   sized : (n : ℕ) → IfSome o (λ f. length (body f) ≡ n) → length bs ≡ n
   sized n h = ap length is ∙ (rw some at h)
 
-pub slice-bounds-split-at-end : goal.slice-bounds-split-at-end
-slice-bounds-split-at-end c = omega (arith, sized c.in-ok-frame.field-0 c.in-Some.frame c.bytes.result.now c.in-Some.is c.bytes.ensures (c.args.shape.pins + c.args.shape.bytes + 2) c.in-ok-frame.ensures.long)
+pub slice_bounds-split_at-end : goal.slice_bounds-split_at-end
+slice_bounds-split_at-end c = omega (arith, sized c.in_ok-frame.field-0 c.in-Some.frame c.bytes.result.now c.in-Some.is c.bytes.ensures (c.args.shape.pins + c.args.shape.bytes + 2) c.in_ok-frame.ensures.long)
 
-pub returns-then-not-are-pins : goal.returns-then-not-are-pins
-returns-then-not-are-pins c =
+pub returns-then-not-are_pins : goal.returns-then-not-are_pins
+returns-then-not-are_pins c =
     let s = c.args.shape in
     let bs = c.bytes.result.now in
     let xs = left c.args.reader.now in
     let line = c.args.reader.now.line in
-    let e = c.in-ok-frame.ensures in
-    let is = framed c.in-ok-frame.field-0 c.in-Some.frame bs c.in-Some.is c.bytes.ensures (due kind.Cell (s.pins + s.bytes + 2) xs line) e.answer in
-    let long = sized c.in-ok-frame.field-0 c.in-Some.frame bs c.in-Some.is c.bytes.ensures (s.pins + s.bytes + 2) e.long in
-    let wrong : pinned s.inputs c.args.before true (take s.pins (take (s.pins + s.bytes + 2 - 1 - 1) (drop 1 bs))) ≡ false = ap (pinned s.inputs c.args.before true) (sym c.split-at.ensures.front) ∙ sym c.are-pins.ensures ∙ c.if-not-are-pins.true in
+    let e = c.in_ok-frame.ensures in
+    let is = framed c.in_ok-frame.field-0 c.in-Some.frame bs c.in-Some.is c.bytes.ensures (due kind.Cell (s.pins + s.bytes + 2) xs line) e.answer in
+    let long = sized c.in_ok-frame.field-0 c.in-Some.frame bs c.in-Some.is c.bytes.ensures (s.pins + s.bytes + 2) e.long in
+    let wrong : pinned s.inputs c.args.before true (take s.pins (take (s.pins + s.bytes + 2 - 1 - 1) (drop 1 bs))) ≡ false = ap (pinned s.inputs c.args.before true) (sym c.split_at.ensures.front) ∙ sym c.are_pins.ensures ∙ c.if-not-are_pins.true in
     record {
       answer = rw c.line-line.ensures (bad-pins s.inputs s.pins s.bytes c.args.before line (s.pins + s.bytes + 2 - 1 - 1) bs (due kind.Cell (s.pins + s.bytes + 2) xs line) is (omega arith) long wrong);
       moved = e.moved;
@@ -41,12 +41,12 @@ returns c =
     let bs = c.bytes.result.now in
     let xs = left c.args.reader.now in
     let line = c.args.reader.now.line in
-    let e = c.in-ok-frame.ensures in
-    let is = framed c.in-ok-frame.field-0 c.in-Some.frame bs c.in-Some.is c.bytes.ensures (due kind.Cell (s.pins + s.bytes + 2) xs line) e.answer in
-    let long = sized c.in-ok-frame.field-0 c.in-Some.frame bs c.in-Some.is c.bytes.ensures (s.pins + s.bytes + 2) e.long in
+    let e = c.in_ok-frame.ensures in
+    let is = framed c.in_ok-frame.field-0 c.in-Some.frame bs c.in-Some.is c.bytes.ensures (due kind.Cell (s.pins + s.bytes + 2) xs line) e.answer in
+    let long = sized c.in_ok-frame.field-0 c.in-Some.frame bs c.in-Some.is c.bytes.ensures (s.pins + s.bytes + 2) e.long in
     let fields = take (s.pins + s.bytes + 2 - 1 - 1) (drop 1 bs) in
-    let right : pinned s.inputs c.args.before true (take s.pins (take (s.pins + s.bytes + 2 - 1 - 1) (drop 1 bs))) ≡ true = ap (pinned s.inputs c.args.before true) (sym c.split-at.ensures.front) ∙ sym c.are-pins.ensures ∙ c.if-not-are-pins.false in
-    let held : Holds (take s.pins fields) (drop s.pins fields) c.new.result = rw (sym c.split-at.ensures.front, sym c.split-at.ensures.back) c.new.ensures in
+    let right : pinned s.inputs c.args.before true (take s.pins (take (s.pins + s.bytes + 2 - 1 - 1) (drop 1 bs))) ≡ true = ap (pinned s.inputs c.args.before true) (sym c.split_at.ensures.front) ∙ sym c.are_pins.ensures ∙ c.if-not-are_pins.false in
+    let held : Holds (take s.pins fields) (drop s.pins fields) c.new.result = rw (sym c.split_at.ensures.front, sym c.split_at.ensures.back) c.new.ensures in
     record {
       answer = good-pins s.inputs s.pins s.bytes c.args.before line (s.pins + s.bytes + 2 - 1 - 1) bs (due kind.Cell (s.pins + s.bytes + 2) xs line) is (omega arith) long c.new.result right held;
       moved = e.moved;

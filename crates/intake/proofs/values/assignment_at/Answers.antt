@@ -31,12 +31,12 @@ overflow-mul-number c = omega (arith, below c.args.values.now c.args.pins.now c.
 pub overflow-add-number : goal.overflow-add-number
 overflow-add-number c =
     let b = below c.args.values.now c.args.pins.now c.loop-pin.pin-index c.loop-pin.number c.loop-pin-test.true c.requires c.loop-pin.invariant in
-    omega (arith, (digit c.args.values.now c.args.pins.now c.loop-pin.pin-index c.loop-pin.number c.loop-pin-test.true c.requires c.loop-pin.invariant c.value-at.result).1, c.from.ensures)
+    omega (arith, (digit c.args.values.now c.args.pins.now c.loop-pin.pin-index c.loop-pin.number c.loop-pin-test.true c.requires c.loop-pin.invariant c.value_at.result).1, c.from.ensures)
 
 pub loop-pin-preserved : goal.loop-pin-preserved
 loop-pin-preserved c =
     ap (λ (d : ℕ). 2 * c.loop-pin.number + d) c.from.ensures
-    ∙ more c.args.values.now c.args.pins.now c.loop-pin.pin-index c.loop-pin.number c.loop-pin-test.true c.requires c.loop-pin.invariant c.value-at.result c.value-at.ensures
+    ∙ more c.args.values.now c.args.pins.now c.loop-pin.pin-index c.loop-pin.number c.loop-pin-test.true c.requires c.loop-pin.invariant c.value_at.result c.value_at.ensures
 
 pub returns : goal.returns
 returns c = c.loop-pin.invariant ∙ ap (λ (ps : List ℕ). assignment (map (pin_value c.args.values.now) ps)) (take_all c.loop-pin.pin-index c.args.pins.now (omega arith))

@@ -19,18 +19,18 @@ loop-i-init c =
       refl,
     )
 
-pub read-node-requires : goal.read-node-requires
-read-node-requires c = omega (arith, c.loop-i.invariant.1)
+pub read_node-requires : goal.read_node-requires
+read_node-requires c = omega (arith, c.loop-i.invariant.1)
 
-pub returns-in-err-read-node : goal.returns-in-err-read-node
-returns-in-err-read-node c =
+pub returns-in_err-read_node : goal.returns-in_err-read_node
+returns-in_err-read_node c =
     let p = err_from_is_err_and c.from-residual.result c.from-residual.ensures.1 in
-    let e = c.in-err-read-node.field-0.0 in
+    let e = c.in_err-read_node.field-0.0 in
     let d = c.loop-i.draft in
     let xs = left c.loop-i.reader in
     let line = c.loop-i.reader.line in
     let i = c.loop-i.invariant in
-    let w = c.in-err-read-node.ensures in
+    let w = c.in_err-read_node.ensures in
     let a = w.answer ∙ ap (λ (n : ℕ). next_node n (drafted d) xs line) i.2 in
     let l = node-bad c.args.draft.now.arity c.args.count c.loop-i.-i (drafted d) xs line _ c.loop-i-test.true i.0 (record_numbers e) e a in
     rw (p.1, p.2) (record { nodes = l; many = tt; arity = w.arity ∙ i.2 })
@@ -41,7 +41,7 @@ returns-in-default c =
     let xs = left c.loop-i.reader in
     let line = c.loop-i.reader.line in
     let i = c.loop-i.invariant in
-    let w = c.in-ok-read-node.ensures in
+    let w = c.in_ok-read_node.ensures in
     let wa = w.answer in
     let a : gone ≡ next_node c.loop-i.draft.arity (drafted c.loop-i.draft) (left c.loop-i.reader) c.loop-i.reader.line = rw c.in-default.is at wa in
     let l = node-gone c.args.draft.now.arity c.args.count c.loop-i.-i (drafted d) xs line _ c.loop-i-test.true i.0 (a ∙ ap (λ (n : ℕ). next_node n (drafted d) xs line) i.2) in
@@ -50,14 +50,14 @@ returns-in-default c =
 pub loop-i-preserved : goal.loop-i-preserved
 loop-i-preserved c =
     let d = c.loop-i.draft in
-    let t = c.read-node.new.draft in
+    let t = c.read_node.new.draft in
     let xs = left c.loop-i.reader in
     let line = c.loop-i.reader.line in
     let i = c.loop-i.invariant in
-    let w = c.in-ok-read-node.ensures in
+    let w = c.in_ok-read_node.ensures in
     let wa = w.answer in
-    let a : got (drafted c.read-node.new.draft) ≡ next_node c.loop-i.draft.arity (drafted c.loop-i.draft) (left c.loop-i.reader) c.loop-i.reader.line = rw c.in-Some.is at wa in
-    let l = node-more c.args.draft.now.arity c.args.count c.loop-i.-i (drafted d) xs line _ c.loop-i-test.true i.0 (drafted t) (left c.read-node.new.reader) c.read-node.new.reader.line (a ∙ ap (λ (n : ℕ). next_node n (drafted d) xs line) i.2) w.moved.rest w.moved.line in
+    let a : got (drafted c.read_node.new.draft) ≡ next_node c.loop-i.draft.arity (drafted c.loop-i.draft) (left c.loop-i.reader) c.loop-i.reader.line = rw c.in-Some.is at wa in
+    let l = node-more c.args.draft.now.arity c.args.count c.loop-i.-i (drafted d) xs line _ c.loop-i-test.true i.0 (drafted t) (left c.read_node.new.reader) c.read_node.new.reader.line (a ∙ ap (λ (n : ℕ). next_node n (drafted d) xs line) i.2) w.moved.rest w.moved.line in
     (l.0, omega (arith, l.1, i.1), w.arity ∙ i.2)
 
 pub returns : goal.returns

@@ -16,7 +16,7 @@ due-length k b is o f some xs line e =
     let g = sym (ap (λ (z : ℕ). awaited (record { kind = z; len = 7 } ∷ []) line (reading xs line)) is) ∙ sym e ∙ ap (λ (z : Option Frame). outcome (Ok z)) some in
     (due-told k xs 5 line (body f) g).2
 
-pub triple-of-requires : goal.triple-of-requires
-triple-of-requires c =
+pub triple_of-requires : goal.triple_of-requires
+triple_of-requires c =
     ap length c.bytes.ensures
-    ∙ due-length c.args.kind c.byte-kind.result c.byte-kind.ensures c.in-ok-frame.field-0 c.in-Some.frame c.in-Some.is (left c.args.reader.now) c.args.reader.now.line c.in-ok-frame.ensures.answer
+    ∙ due-length c.args.kind c.byte-kind.result c.byte-kind.ensures c.in_ok-frame.field-0 c.in-Some.frame c.in-Some.is (left c.args.reader.now) c.args.reader.now.line c.in_ok-frame.ensures.answer

@@ -17,17 +17,17 @@ ready s p raw pm t len =
 
 pub reduce-requires : goal.reduce-requires
 reduce-requires c =
-    let len : length c.spread-out-raw.result ≡ 3072 = search rules in
+    let len : length c.spread_out-raw.result ≡ 3072 = search rules in
     let s = c.args.chart.now in
-    let r = ready s c.args.p c.spread-out-raw.result c.requires c.spread-out-raw.ensures len in
+    let r = ready s c.args.p c.spread_out-raw.result c.requires c.spread_out-raw.ensures len in
     record { small = s.small; long = r.long; rooted = omega (arith, r.root-there, c.tripled.ensures); ordered = r.ordered }
 
 pub returns : goal.returns
 returns c =
-    let len : length c.spread-out-raw.result ≡ 3072 = search rules in
+    let len : length c.spread_out-raw.result ≡ 3072 = search rules in
     let s = c.args.chart.now in
-    let ys = take (3 * s.count - 0) c.spread-out-raw.result in
-    let r = ready s c.args.p c.spread-out-raw.result c.requires c.spread-out-raw.ensures len in
+    let ys = take (3 * s.count - 0) c.spread_out-raw.result in
+    let r = ready s c.args.p c.spread_out-raw.result c.requires c.spread_out-raw.ensures len in
     let e : mean ys s.arity 0 c.tripled.result ≡ exchanged c.args.p (node_function s) = ap (λ (z : ℕ). mean ys s.arity 0 z) c.tripled.ensures ∙ r.means in
     let P : Fn → Type 0 = λ f. Draws s.arity f c.reduce.result in
     subst P e c.reduce.ensures

@@ -19,7 +19,7 @@ loop-q-preserved c =
     let v = c.number.result in
     let inv = c.loop-q.invariant in
     let small = c.requires.width in (
-      leaf_more xs (λ x. seen s.nodes s.count c.args.b (get_or c.args.places.now (get_or c.args.class-of.now x 0) 0)) q v (omega (arith, inv.2)) c.number.ensures inv.0,
+      leaf_more xs (λ x. seen s.nodes s.count c.args.b (get_or c.args.places.now (get_or c.args.class_of.now x 0) 0)) q v (omega (arith, inv.2)) c.number.ensures inv.0,
       (λ x l. get_or-set_other xs q x v 0 (λ e. omega arith) ∙ inv.1 x (omega arith)),
       length-set xs q v ∙ inv.2,
     )

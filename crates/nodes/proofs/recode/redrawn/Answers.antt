@@ -4,8 +4,8 @@ use Rattle.nodes.specs.NodeCharts.{Draws}
 use Rattle.nodes.proofs.Charting.{code_room, ready, few_shifted, recoded_is}
 use Rattle.nodes.proofs.recode.redrawn.Goals as goal
 
-pub leaves-of-leaves-requires : goal.leaves-of-leaves-requires
-leaves-of-leaves-requires c =
+pub leaves_of-leaves-requires : goal.leaves_of-leaves-requires
+leaves_of-leaves-requires c =
     let ok = c.requires in
     let w = c.power-width.ensures.within (omega (arith, ok.few)) in
     record {
@@ -19,11 +19,11 @@ crown-root-requires c =
     let w = c.power-width.ensures.within (omega (arith, c.requires.few)) in
     let room = code_room c.args.j c.requires.few in
     record {
-      leaves = ready c.args.chart.now c.args.b c.args.j c.args.places.now c.args.class-of.now c.requires c.power-width.result w c.leaves-of-leaves.result c.leaves-of-leaves.ensures.front c.leaves-of-leaves.ensures.rest c.shifted-raw.result.nodes c.shifted-raw.ensures.shifts c.shifted-raw.result.count c.shifted-raw.ensures.all c.shifted-raw.ensures.none;
+      leaves = ready c.args.chart.now c.args.b c.args.j c.args.places.now c.args.class_of.now c.requires c.power-width.result w c.leaves_of-leaves.result c.leaves_of-leaves.ensures.front c.leaves_of-leaves.ensures.rest c.shifted-raw.result.nodes c.shifted-raw.ensures.shifts c.shifted-raw.result.count c.shifted-raw.ensures.all c.shifted-raw.ensures.none;
       within = omega arith;
       width = w;
       inside = omega arith;
-      room = omega (arith, few_shifted c.args.chart.now c.args.b c.args.j c.args.places.now c.args.class-of.now c.requires c.power-width.result w c.leaves-of-leaves.result c.leaves-of-leaves.ensures.front c.leaves-of-leaves.ensures.rest c.shifted-raw.result.nodes c.shifted-raw.ensures.shifts c.shifted-raw.result.count c.shifted-raw.ensures.all c.shifted-raw.ensures.none);
+      room = omega (arith, few_shifted c.args.chart.now c.args.b c.args.j c.args.places.now c.args.class_of.now c.requires c.power-width.result w c.leaves_of-leaves.result c.leaves_of-leaves.ensures.front c.leaves_of-leaves.ensures.rest c.shifted-raw.result.nodes c.shifted-raw.ensures.shifts c.shifted-raw.result.count c.shifted-raw.ensures.all c.shifted-raw.ensures.none);
     }
 
 pub reduced-requires : goal.reduced-requires
@@ -33,7 +33,7 @@ reduced-requires c =
     let t = c.crown-root.ensures in
     record {
       small = c.requires.small;
-      long = omega (arith, t.few, few_shifted c.args.chart.now c.args.b c.args.j c.args.places.now c.args.class-of.now c.requires c.power-width.result w c.leaves-of-leaves.result c.leaves-of-leaves.ensures.front c.leaves-of-leaves.ensures.rest c.shifted-raw.result.nodes c.shifted-raw.ensures.shifts c.shifted-raw.result.count c.shifted-raw.ensures.all c.shifted-raw.ensures.none);
+      long = omega (arith, t.few, few_shifted c.args.chart.now c.args.b c.args.j c.args.places.now c.args.class_of.now c.requires c.power-width.result w c.leaves_of-leaves.result c.leaves_of-leaves.ensures.front c.leaves_of-leaves.ensures.rest c.shifted-raw.result.nodes c.shifted-raw.ensures.shifts c.shifted-raw.result.count c.shifted-raw.ensures.all c.shifted-raw.ensures.none);
       rooted = t.there_is;
       ordered = t.ordered;
     }
@@ -43,4 +43,4 @@ returns c =
     let w = c.power-width.ensures.within (omega (arith, c.requires.few)) in
     let s = c.args.chart.now in
     let P : Fn → Type 0 = λ f. Draws (s.arity - c.args.b + c.args.j) f c.reduced.result in
-    subst P (recoded_is c.args.chart.now c.args.b c.args.j c.args.places.now c.args.class-of.now c.requires c.power-width.result w c.leaves-of-leaves.result c.leaves-of-leaves.ensures.front c.leaves-of-leaves.ensures.rest c.shifted-raw.result.nodes c.shifted-raw.ensures.shifts c.shifted-raw.result.count c.shifted-raw.ensures.all c.shifted-raw.ensures.none c.crown-root.new.raw.nodes c.crown-root.new.raw.count c.crown-root.result c.crown-root.ensures) c.reduced.ensures
+    subst P (recoded_is c.args.chart.now c.args.b c.args.j c.args.places.now c.args.class_of.now c.requires c.power-width.result w c.leaves_of-leaves.result c.leaves_of-leaves.ensures.front c.leaves_of-leaves.ensures.rest c.shifted-raw.result.nodes c.shifted-raw.ensures.shifts c.shifted-raw.result.count c.shifted-raw.ensures.all c.shifted-raw.ensures.none c.crown-root.new.raw.nodes c.crown-root.new.raw.count c.crown-root.result c.crown-root.ensures) c.reduced.ensures

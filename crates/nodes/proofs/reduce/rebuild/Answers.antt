@@ -11,7 +11,7 @@ use Rattle.nodes.proofs.Making.{State}
 use Rattle.nodes.proofs.Indexes.{at-index}
 use Rattle.nodes.proofs.Rebuilding.{Turn, turn_first, turn_skip, turn_more, full_up, state-first, finish, renamed, did-count, did-length}
 use Rattle.nodes.proofs.reduce.rebuild.Goals as goal
-use Rattle.nodes.proofs.reduce.rebuild.Goals.{then-is-marked+in-ok-number, else-is-marked}
+use Rattle.nodes.proofs.reduce.rebuild.Goals.{then-is-marked+in-ok-number, else-is_marked}
 
 pub loop-i-init : goal.loop-i-init
 loop-i-init c =
@@ -24,10 +24,10 @@ loop-i-init c =
       refl,
     )
 
-pub returns-in-err-number : goal.returns-in-err-number
-returns-in-err-number c =
+pub returns-in_err-number : goal.returns-in_err-number
+returns-in_err-number c =
     let inv = c.loop-i.invariant in
-    let e = c.in-err-number.ensures in
+    let e = c.in_err-number.ensures in
     let xs = c.loop-i.store.nodes in
     let n = c.loop-i.store.count in
     let raw = c.args.raw.now in
@@ -36,7 +36,7 @@ returns-in-err-number c =
     let len : length xs ≡ n = omega (arith, inv.4, e.1) in
     let P : Node → Type 0 = λ y. ((renamed y new).low ≡ (renamed y new).high → ⊥) × Absent xs n (renamed y new) in
     let q : P (at raw (c.loop-i.i + 2)) = subst P (sym (at-index raw c.loop-i.i)) (e.2, e.3) in
-    let more = full_up c.args.arity raw c.requires.ordered c.args.root c.requires.rooted c.args.marks.now c.requires.marked c.loop-i.i il (sym c.if-is-marked.ensures) new xs n inv.2 inv.3 len q.0 q.1 in
+    let more = full_up c.args.arity raw c.requires.ordered c.args.root c.requires.rooted c.args.marks.now c.requires.marked c.loop-i.i il (sym c.if-is_marked.ensures) new xs n inv.2 inv.3 len q.0 q.1 in
     MatchResult-from_err c.from-residual.result _ _ c.from-residual.ensures.0 (λ y. omega (arith, more, e.1))
 
 pub loop-i-preserved : goal.loop-i-preserved
@@ -47,34 +47,34 @@ loop-i-preserved c =
     let marks = c.args.marks.now in
     let f = mean raw m 0 c.args.root in
     let P : Store → List ℕ → Type 0 = λ s new. Indexed s.nodes s.heads s.nexts s.count × (s.count ≤ 1024) × State m f s.nodes s.count × Turn m raw marks (c.loop-i.i + 1) s.nodes s.count new × (length s.nodes ≡ 1024) × (length new ≡ 3074) in
-    elim c.if-is-marked.branch [
+    elim c.if-is_marked.branch [
       | then-is-marked+in-ok-number w ↦
-          let e = w.in-ok-number.ensures in
+          let e = w.in_ok-number.ensures in
           let s = c.loop-i.store in
           let s' = w.make.new.self in
           let new = c.loop-i.new in
-          let r = w.in-ok-number.number in
+          let r = w.in_ok-number.number in
           let il : c.loop-i.i < length raw = c.loop-i-test.true in
           let len : length s.nodes ≡ 1024 = inv.4 in
           let room : c.loop-i.i + 2 < length new = omega (arith, inv.5, c.requires.long) in
           let Q : Node → Type 0 = λ y. Did s s' (renamed y new) r in
           let did : Did s s' (renamed (at raw (c.loop-i.i + 2)) new) r = subst Q (sym (at-index raw c.loop-i.i)) e.did in
-          let t = turn_more m raw c.requires.ordered c.args.root c.requires.rooted marks c.requires.marked c.loop-i.i il (sym w.if-is-marked.ensures) new s s' r len room inv.2 inv.3 did in
+          let t = turn_more m raw c.requires.ordered c.args.root c.requires.rooted marks c.requires.marked c.loop-i.i il (sym w.if-is_marked.ensures) new s s' r len room inv.2 inv.3 did in
           let got : P s' (set new (c.loop-i.i + 2) r) = (e.index, did-count s s' _ r did inv.1, t.0, t.1, did-length s s' _ r did len, length-set new (c.loop-i.i + 2) r ∙ inv.5) in
-          let R : Store → Type 0 = λ z. P z c.if-is-marked.new in
+          let R : Store → Type 0 = λ z. P z c.if-is_marked.new in
           let R' : List ℕ → Type 0 = λ z. P s' z in
           subst R (sym w.store-is) (subst R' (sym w.new-is) got)
-      | else-is-marked w ↦
+      | else-is_marked w ↦
           let s = c.loop-i.store in
-          let nay : get_or marks (c.loop-i.i + 2) false ≡ true → ⊥ = λ q. true≢false (sym q ∙ sym w.if-is-marked.ensures) in
+          let nay : get_or marks (c.loop-i.i + 2) false ≡ true → ⊥ = λ q. true≢false (sym q ∙ sym w.if-is_marked.ensures) in
           let got : P s c.loop-i.new = (inv.0, inv.1, inv.2, turn_skip m raw marks c.loop-i.i s.nodes s.count c.loop-i.new inv.3 nay, inv.4, inv.5) in
-          let R : Store → Type 0 = λ z. P z c.if-is-marked.new in
+          let R : Store → Type 0 = λ z. P z c.if-is_marked.new in
           let R' : List ℕ → Type 0 = λ z. P s z in
           subst R (sym w.store-is) (subst R' (sym w.new-is) got)
     ]
 
-pub invariant-of-result : goal.invariant-of-result
-invariant-of-result c =
+pub invariant_of-result : goal.invariant_of-result
+invariant_of-result c =
     let inv = c.loop-i.invariant in
     let end : length c.args.raw.now ≤ c.loop-i.i = c.loop-i-test.false in
     let there = c.requires.rooted in

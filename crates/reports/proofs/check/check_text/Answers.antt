@@ -24,7 +24,7 @@ loop-all-init c = so_far_none _ _ _ _ c.new-reader.ensures.rest c.new-reader.ens
 pub overflow-add-faulty : goal.overflow-add-faulty
 overflow-add-faulty c =
     let r = c.loop-all.reader in
-    let l = found_line r _ c.in-Some.line c.in-Some.is c.in-ok-line.ensures.found in
+    let l = found_line r _ c.in-Some.line c.in-Some.is c.in_ok-line.ensures.found in
     let some = some_left (left r) r.line l.more in
     let few = few_faulty c.loop-all.invariant in
     omega arith
@@ -32,19 +32,19 @@ overflow-add-faulty c =
 pub loop-all-smaller : goal.loop-all-smaller
 loop-all-smaller c =
     let r = c.loop-all.reader in
-    let l = found_line r _ c.in-Some.line c.in-Some.is c.in-ok-line.ensures.found in
+    let l = found_line r _ c.in-Some.line c.in-Some.is c.in_ok-line.ensures.found in
     let less = less_left (left r) r.line l.more in
-    let rest = ap length c.in-ok-line.ensures.moved.rest in
+    let rest = ap length c.in_ok-line.ensures.moved.rest in
     omega arith
 
 pub loop-all-preserved : goal.loop-all-preserved
 loop-all-preserved c =
     let r = c.loop-all.reader in
-    let l = found_line r _ c.in-Some.line c.in-Some.is c.in-ok-line.ensures.found in
-    let moved = c.in-ok-line.ensures.moved in
+    let l = found_line r _ c.in-Some.line c.in-Some.is c.in_ok-line.ensures.found in
+    let moved = c.in_ok-line.ensures.moved in
     let o = reading (left r) r.line in
-    let said : string_bytes c.push-str.new.self ≡ string_bytes c.loop-all.all ++ outcome_text r.line o =
-    c.in-ok-push-str.ensures.bytes ∙ ap (λ (t : List ℕ). string_bytes c.loop-all.all ++ t) (c.as-str.ensures.value ∙ l.said) in
+    let said : string_bytes c.push_str.new.self ≡ string_bytes c.loop-all.all ++ outcome_text r.line o =
+    c.in_ok-push_str.ensures.bytes ∙ ap (λ (t : List ℕ). string_bytes c.loop-all.all ++ t) (c.as_str.ensures.value ∙ l.said) in
     let faulty : c.if-line.faulty ≡ c.loop-all.faulty + cond (is_fault o) 1 0 =
     elim c.if-line.branch [
       | then-line w ↦ w.faulty-is ∙ ap (λ (b : Bool). c.loop-all.faulty + cond b 1 0) (sym w.if-line.true ∙ l.judged)
@@ -58,21 +58,21 @@ stays before after e moved = moved.line ∙ ap (λ (xs : List ℕ). line_after x
 
 pub overflow-sub-lines : goal.overflow-sub-lines
 overflow-sub-lines c =
-    let ended = found_end c.loop-all.reader _ c.in-default.not-Some c.in-ok-line.ensures.found in
-    let same = stays c.loop-all.reader c.next-line.new.reader ended c.in-ok-line.ensures.moved in
+    let ended = found_end c.loop-all.reader _ c.in-default.not-Some c.in_ok-line.ensures.found in
+    let same = stays c.loop-all.reader c.next_line.new.reader ended c.in_ok-line.ensures.moved in
     let some = some-line c.loop-all.invariant in
     omega arith
 
 pub overflow-sub-lines-2 : goal.overflow-sub-lines-2
 overflow-sub-lines-2 c =
-    let ended = found_end c.loop-all.reader _ c.in-default.not-Some c.in-ok-line.ensures.found in
-    let same = stays c.loop-all.reader c.next-line.new.reader ended c.in-ok-line.ensures.moved in
+    let ended = found_end c.loop-all.reader _ c.in-default.not-Some c.in_ok-line.ensures.found in
+    let same = stays c.loop-all.reader c.next_line.new.reader ended c.in_ok-line.ensures.moved in
     let few = fewer_faulty c.loop-all.invariant in
     omega arith
 
 pub returns : goal.returns
 returns c =
-    let ended = found_end c.loop-all.reader _ c.in-default.not-Some c.in-ok-line.ensures.found in
-    let same = stays c.loop-all.reader c.next-line.new.reader ended c.in-ok-line.ensures.moved in
+    let ended = found_end c.loop-all.reader _ c.in-default.not-Some c.in_ok-line.ensures.found in
+    let same = stays c.loop-all.reader c.next_line.new.reader ended c.in_ok-line.ensures.moved in
     so_far_all c.loop-all.invariant ended _ (c.line-lines.result - 1) (c.line-lines.result - 1 - c.loop-all.faulty) (ap (λ (k : ℕ). k - 1) (c.line-lines.ensures ∙ same)) refl
-    (c.in-ok-push-str-2.ensures.bytes ∙ ap (λ (t : List ℕ). string_bytes c.loop-all.all ++ t) (c.as-str-2.ensures.value ∙ c.in-ok-total.ensures)) refl
+    (c.in_ok-push_str-2.ensures.bytes ∙ ap (λ (t : List ℕ). string_bytes c.loop-all.all ++ t) (c.as_str-2.ensures.value ∙ c.in_ok-total.ensures)) refl

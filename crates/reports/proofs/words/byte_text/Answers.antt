@@ -11,7 +11,7 @@ ascii d h = grind (arith, nat_tests)
 pub returns : goal.returns
 returns c =
     let b = c.args.byte in
-    let d = c.byte-digits-digits.ensures in
+    let d = c.byte_digits-digits.ensures in
     let high : c.from-high.result ≡ hex_digit (b / 16) = c.from-high.ensures ∙ ap (λ (l : List ℕ). get_or l 0 0) d in
     let low : c.from-low.result ≡ hex_digit (b % 16) = c.from-low.ensures ∙ ap (λ (l : List ℕ). get_or l 1 0) d in
     let x = encode_ascii (hex_digit (b / 16)) (ascii (b / 16) (omega arith)) in

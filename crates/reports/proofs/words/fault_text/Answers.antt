@@ -9,6 +9,6 @@ pub returns : goal.returns
 returns c =
     let fault = c.args.fault.now in
     let numbers : c.numbers-numbers.result ≡ page_numbers fault = c.numbers-numbers.ensures in
-    let node : c.as-str.result.now ≡ node_text (page_numbers fault).node = c.as-str.ensures.value ∙ c.in-ok-node.ensures ∙ ap (λ (w : FaultNumbers). node_text w.node) numbers in
-    let words : c.as-str-2.result.now ≡ page_words fault = c.as-str-2.ensures.value ∙ c.in-ok-words.ensures in
-    made_as _ _ _ (λ i. fault_pieces (numbers i) (node i) (words i)) c.fault-pieces.ensures
+    let node : c.as_str.result.now ≡ node_text (page_numbers fault).node = c.as_str.ensures.value ∙ c.in_ok-node.ensures ∙ ap (λ (w : FaultNumbers). node_text w.node) numbers in
+    let words : c.as_str-2.result.now ≡ page_words fault = c.as_str-2.ensures.value ∙ c.in_ok-words.ensures in
+    made_as _ _ _ (λ i. fault_pieces (numbers i) (node i) (words i)) c.fault_pieces.ensures

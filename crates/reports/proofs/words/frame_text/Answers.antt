@@ -9,7 +9,7 @@ use Rattle.reports.proofs.words.frame_text.Goals as goal
 pub returns : goal.returns
 returns c =
     let bs = body c.args.frame.now in
-    let kind : c.as-str.result.now ≡ byte_digits (get_or bs 0 0) = c.as-str.ensures.value ∙ c.in-ok-kind.ensures ∙ ap byte_digits c.kind.ensures in
+    let kind : c.as_str.result.now ≡ byte_digits (get_or bs 0 0) = c.as_str.ensures.value ∙ c.in_ok-kind.ensures ∙ ap byte_digits c.kind.ensures in
     let count : c.len.result ≡ length bs = c.len.ensures.value in
-    let name : c.kind-name-name.result.now ≡ kind_name (kind_of (get_or bs 0 0)) = c.kind-name-name.ensures ∙ ap kind_name c.of.ensures.value ∙ ap (λ (b : ℕ). kind_name (kind_of b)) c.kind-2.ensures in
-    made_as _ _ _ (λ i. frame_pieces c.args.line (kind i) (count i) (name i)) c.frame-pieces.ensures
+    let name : c.kind_name-name.result.now ≡ kind_name (kind_of (get_or bs 0 0)) = c.kind_name-name.ensures ∙ ap kind_name c.of.ensures.value ∙ ap (λ (b : ℕ). kind_name (kind_of b)) c.kind-2.ensures in
+    made_as _ _ _ (λ i. frame_pieces c.args.line (kind i) (count i) (name i)) c.frame_pieces.ensures

@@ -6,7 +6,7 @@ pub returns-then-left-j-gt-MOST : goal.returns-then-left-j-gt-MOST
 returns-then-left-j-gt-MOST c =
     let s = c.args.self.now in
     let ok = c.if-not-recodable.ensures.0 refl in
-    (refl, inr (refl, ok, recoded_too_wide s.count c.args.b c.args.j s.table c.args.places.now c.args.class-of.now ok 12 c.if-left-j-gt-MOST.true))
+    (refl, inr (refl, ok, recoded_too_wide s.count c.args.b c.args.j s.table c.args.places.now c.args.class_of.now ok 12 c.if-left-j-gt-MOST.true))
 
 pub returns : goal.returns
 returns c =
@@ -14,8 +14,8 @@ returns c =
     let ok = c.if-not-recodable.ensures.0 refl in (
       ok,
       record {
-        fitted = recoded-fits s.count c.args.b c.args.j s.table c.args.places.now c.args.class-of.now ok 12 c.if-left-j-gt-MOST.false;
-        meaning = recoded-means s.count c.args.b c.args.j s.table c.args.places.now c.args.class-of.now ok c.rows-table.result c.rows-table.ensures;
+        fitted = recoded-fits s.count c.args.b c.args.j s.table c.args.places.now c.args.class_of.now ok 12 c.if-left-j-gt-MOST.false;
+        meaning = recoded-means s.count c.args.b c.args.j s.table c.args.places.now c.args.class_of.now ok c.rows-table.result c.rows-table.ensures;
         counted = refl;
         fitting = λ f. (λ h. h, λ h. h);
       },

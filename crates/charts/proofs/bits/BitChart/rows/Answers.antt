@@ -4,8 +4,8 @@ use Rattle.charts.proofs.Stretches.{table-size, filled_more}
 use Rattle.charts.proofs.Recodes.{code_below}
 use Rattle.charts.proofs.bits.BitChart.rows.Goals as goal
 
-pub row-entry-requires : goal.row-entry-requires
-row-entry-requires c =
+pub row_entry-requires : goal.row_entry-requires
+row_entry-requires c =
     let x = c.loop-x.x in
     let k = c.args.k in
     let code : x / 2 ^ k < 2 ^ c.args.j = code_below k c.args.j x (omega (arith, c.power-x-end.ensures.within (omega (arith, c.requires.small)))) in
@@ -19,4 +19,4 @@ loop-x-preserved c =
     let s = c.args.self.now in
     let x = c.loop-x.x in
     let h : x < 4096 = omega (arith, table-size (c.args.k + c.args.j) c.requires.small, c.power-x-end.ensures.within (omega (arith, c.requires.small))) in
-    filled_more x (row_entry s.count s.table c.args.k c.args.places.now c.args.class-of.now) c.loop-x.table c.row_entry.result h c.row_entry.ensures c.loop-x.invariant
+    filled_more x (row_entry s.count s.table c.args.k c.args.places.now c.args.class_of.now) c.loop-x.table c.row_entry.result h c.row_entry.ensures c.loop-x.invariant

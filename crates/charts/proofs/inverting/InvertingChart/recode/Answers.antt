@@ -11,7 +11,7 @@ returns g c =
     let b = c.args.b in
     let j = c.args.j in
     let places = c.args.places.now in
-    let classes = c.args.class-of.now in
+    let classes = c.args.class_of.now in
     let column = m.column s b in
     let class : ℕ → ℕ = λ q. get_or classes q 0 in
     change_inverted g.row.C-Place.Denot m.arity (whole m.column m.root) m.fits (Recodable (m.arity s) b j (length places) classes) (m.arity s - b + j)

@@ -14,6 +14,6 @@ returns g c =
     let many : c.args.self.now.netlist.count ≡ length (map (configured (g.F.CellFamily.pins c.args.self.now.family) (g.F.CellFamily.packed c.args.self.now.family)) (cells_of c.args.self.now.netlist)) =
     sym (length-map (cells_of d.netlist) (configured (g.F.CellFamily.pins d.family) (g.F.CellFamily.packed d.family)) ∙ count-cells d.netlist) in
     s.2
-    ∙ ap sealed c.heading-content-content.ensures
+    ∙ ap sealed c.heading_content-content.ensures
     ∙ ap (λ k. sealed (0x11 ∷ k ∷ d.inputs ∷ d.netlist.count ∷ [])) c.number.ensures
     ∙ ap (λ k. sealed (0x11 ∷ g.F.CellFamily.number d.family ∷ d.inputs ∷ k ∷ [])) many

@@ -9,8 +9,8 @@ use Rattle.design.proofs.design.Design.left_bit.Goals as goal
 pub loop-depth-preserved : goal.loop-depth-preserved
 loop-depth-preserved g c =
     let d = c.args.self.now in
-    stepped (inverted g.C.Chart) d.chart (left_of g.C.Chart g.R.CodeRule g.F.CellFamily d) c.args.table.now d.live c.loop-depth.depth c.loop-depth.place c.step-place.result c.value-of-value.result
-    (omega (arith, g.C.Chart.laws.small c.args.self.now.chart.below, c.count-depth-end.ensures, c.signal-at.ensures.long)) c.loop-depth.invariant (c.value-of-value.ensures ∙ ap (λ i. get_or c.args.table.now i false) c.signal-at.ensures.value) c.step-place.ensures
+    stepped (inverted g.C.Chart) d.chart (left_of g.C.Chart g.R.CodeRule g.F.CellFamily d) c.args.table.now d.live c.loop-depth.depth c.loop-depth.place c.step-place.result c.value_of-value.result
+    (omega (arith, g.C.Chart.laws.small c.args.self.now.chart.below, c.count-depth-end.ensures, c.signal_at.ensures.long)) c.loop-depth.invariant (c.value_of-value.ensures ∙ ap (λ i. get_or c.args.table.now i false) c.signal_at.ensures.value) c.step-place.ensures
 
 pub returns : goal.returns
 returns g c =

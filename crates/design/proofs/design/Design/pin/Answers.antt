@@ -17,7 +17,7 @@ returns g c =
     record {
       answers = record {
         says =
-            ap (λ b. Shows (not b)) (c.left-bit.ensures ∙ ap (λ t. value s.left (values t s.live)) c.signal-values-table.ensures ∙ ap (value s.left) (blank-values all (48 - d.netlist.count) s.live)
+            ap (λ b. Shows (not b)) (c.left_bit.ensures ∙ ap (λ t. value s.left (values t s.live)) c.signal_values-table.ensures ∙ ap (value s.left) (blank-values all (48 - d.netlist.count) s.live)
             ∙ sym (cond-false s.closed (last (yielded yield vs s.cells)) (left_value s vs) c.if-self.false));
         leaves = refl;
       };

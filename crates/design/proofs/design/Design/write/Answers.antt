@@ -22,9 +22,9 @@ loop-i-preserved g c =
     let inv = c.loop-i.invariant in
     let i = c.loop-i.i in
     let blank : Cell = record { pins = []; used = 0; table = 0 } in (
-      length-set c.loop-i.frames (i + 1) c.frame-of.result ∙ inv.0,
-      frames_more (λ x. cell_frame (configured (fa.pins d.family) (fa.packed d.family) (seen_cell x))) c.loop-i.frames d.netlist.cells (heading_frame (fa.number d.family) (network_seen g.C.Chart g.R.CodeRule fa d) ∷ []) i blank c.frame-of.result
-          (omega arith) (omega arith) inv.1 c.frame-of.ensures,
+      length-set c.loop-i.frames (i + 1) c.frame_of.result ∙ inv.0,
+      frames_more (λ x. cell_frame (configured (fa.pins d.family) (fa.packed d.family) (seen_cell x))) c.loop-i.frames d.netlist.cells (heading_frame (fa.number d.family) (network_seen g.C.Chart g.R.CodeRule fa d) ∷ []) i blank c.frame_of.result
+          (omega arith) (omega arith) inv.1 c.frame_of.ensures,
     )
 
 pub returns-in-Ok : goal.returns-in-Ok
@@ -33,7 +33,7 @@ returns-in-Ok g c =
     let wrote = c.in-Ok.ensures.wrote in
     let n = d.netlist.count + 1 - 0 in
     let e : c.loop-i.i ≡ c.args.self.now.netlist.count = omega arith in
-    write_done g.C.Chart g.R.CodeRule g.F.CellFamily d c.args.out.now c.if-not-self.false (text (map body (take n c.loop-i.frames))) c.write-frames.new.out
+    write_done g.C.Chart g.R.CodeRule g.F.CellFamily d c.args.out.now c.if-not-self.false (text (map body (take n c.loop-i.frames))) c.write_frames.new.out
     (page_written g.C.Chart g.R.CodeRule g.F.CellFamily d c.args.out.now c.loop-i.frames c.loop-i.i n e (omega arith) c.loop-i.invariant.1) c.in-Ok.bytes wrote.0 wrote.1 wrote.2
 
 pub returns-in-Err : goal.returns-in-Err
@@ -42,5 +42,5 @@ returns-in-Err g c =
     let wrote = c.in-Err.ensures.wrote in
     let n = d.netlist.count + 1 - 0 in
     let e : c.loop-i.i ≡ c.args.self.now.netlist.count = omega arith in
-    write_short g.C.Chart g.R.CodeRule g.F.CellFamily d c.args.out.now c.if-not-self.false (text (map body (take n c.loop-i.frames))) c.write-frames.new.out
+    write_short g.C.Chart g.R.CodeRule g.F.CellFamily d c.args.out.now c.if-not-self.false (text (map body (take n c.loop-i.frames))) c.write_frames.new.out
     (page_written g.C.Chart g.R.CodeRule g.F.CellFamily d c.args.out.now c.loop-i.frames c.loop-i.i n e (omega arith) c.loop-i.invariant.1) wrote.0 wrote.2

@@ -17,6 +17,6 @@ returns-then-self-gt0 c =
     let made = length-yielded yield vs (cells_of n) in
     let at : 15 + c.args.self.now.count ≡ 16 + (c.args.self.now.count - 1) = omega arith in
     let l : length (yielded yield (input_bits c.args.inputs) (cells_of c.args.self.now)) ≡ suc (c.args.self.now.count - 1) = omega arith in
-    ap (λ t. get_or t (15 + n.count) false) c.signal-values-table.ensures
+    ap (λ t. get_or t (15 + n.count) false) c.signal_values-table.ensures
     ∙ ap (λ k. get_or ((vs ++ yielded yield vs (cells_of n)) ++ replicate (48 - n.count) false) k false) at
     ∙ last-at vs (yielded yield vs (cells_of n)) (n.count - 1) (replicate (48 - n.count) false) refl l

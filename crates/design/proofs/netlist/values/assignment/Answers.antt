@@ -28,7 +28,7 @@ loop-s-preserved c =
     let m = number_more (values vs (take i ps)) (get_or vs (get_or ps i 0) false) in
     let a = ap (λ n. 2 * n) c.loop-s.invariant in
     let d = c.digit.ensures.value in
-    let v = c.value-of.ensures in
+    let v = c.value_of.ensures in
     cc
 
 pub returns : goal.returns

@@ -12,5 +12,5 @@ returns c =
     let k = c.min-used.ensures in
     let l : length c.args.cell.now.pins ≡ 5 = omega arith in
     let n : c.min-used.result - 0 ≡ min c.args.cell.now.used (length c.args.cell.now.pins) = omega arith in
-    c.entry-of.ensures
+    c.entry_of.ensures
     ∙ ap (entry_of c.args.cell.now.table) (c.assignment.ensures ∙ ap (λ qs. number (values c.args.table.now qs)) (ap (λ i. take i ps) n ∙ take_min used ps))

@@ -11,24 +11,24 @@ returns-then-start-bytes c =
 pub returns-then-end-bytes : goal.returns-then-end-bytes
 returns-then-end-bytes c =
     let h = c.args.self.now.within in
-    let s = c.line-end-end.ensures.value in
-    let p = open_line c.args.self.now.bytes.now c.args.self.now.at c.args.self.now.line c.line-end-end.result (omega arith) s c.if-end-bytes.true in
-    let q = next-line c.args.self.now.bytes.now c.args.self.now.at c.args.self.now.line c.line-end-end.result (omega arith) s in
-    record { answer = sym p.0; moved = record { rest = c.go-on.ensures.at ∙ p.1; line = c.go-on.ensures.line ∙ sym q } }
+    let s = c.line_end-end.ensures.value in
+    let p = open_line c.args.self.now.bytes.now c.args.self.now.at c.args.self.now.line c.line_end-end.result (omega arith) s c.if-end-bytes.true in
+    let q = next-line c.args.self.now.bytes.now c.args.self.now.at c.args.self.now.line c.line_end-end.result (omega arith) s in
+    record { answer = sym p.0; moved = record { rest = c.go_on.ensures.at ∙ p.1; line = c.go_on.ensures.line ∙ sym q } }
 
-pub returns-in-err-frame-of : goal.returns-in-err-frame-of
-returns-in-err-frame-of c =
+pub returns-in_err-frame_of : goal.returns-in_err-frame_of
+returns-in_err-frame_of c =
     let h = c.args.self.now.within in
-    let s = c.line-end-end.ensures.value in
-    let p = ended-line c.args.self.now.bytes.now c.args.self.now.at c.args.self.now.line c.line-end-end.result (omega arith) s (omega arith) in
-    let q = next-line c.args.self.now.bytes.now c.args.self.now.at c.args.self.now.line c.line-end-end.result (omega arith) s in
+    let s = c.line_end-end.ensures.value in
+    let p = ended-line c.args.self.now.bytes.now c.args.self.now.at c.args.self.now.line c.line_end-end.result (omega arith) s (omega arith) in
+    let q = next-line c.args.self.now.bytes.now c.args.self.now.at c.args.self.now.line c.line_end-end.result (omega arith) s in
     let e = err_from_is_err_and c.from-residual.result c.from-residual.ensures.1 in
-    rw (e.1, e.2) (record { answer = c.in-err-frame-of.ensures ∙ sym p.0; moved = record { rest = c.go-on-2.ensures.at ∙ p.1; line = c.go-on-2.ensures.line ∙ sym q } })
+    rw (e.1, e.2) (record { answer = c.in_err-frame_of.ensures ∙ sym p.0; moved = record { rest = c.go_on-2.ensures.at ∙ p.1; line = c.go_on-2.ensures.line ∙ sym q } })
 
 pub returns : goal.returns
 returns c =
     let h = c.args.self.now.within in
-    let s = c.line-end-end.ensures.value in
-    let p = ended-line c.args.self.now.bytes.now c.args.self.now.at c.args.self.now.line c.line-end-end.result (omega arith) s (omega arith) in
-    let q = next-line c.args.self.now.bytes.now c.args.self.now.at c.args.self.now.line c.line-end-end.result (omega arith) s in
-    record { answer = c.in-ok-frame-of.ensures ∙ sym p.0; moved = record { rest = c.go-on-2.ensures.at ∙ p.1; line = c.go-on-2.ensures.line ∙ sym q } }
+    let s = c.line_end-end.ensures.value in
+    let p = ended-line c.args.self.now.bytes.now c.args.self.now.at c.args.self.now.line c.line_end-end.result (omega arith) s (omega arith) in
+    let q = next-line c.args.self.now.bytes.now c.args.self.now.at c.args.self.now.line c.line_end-end.result (omega arith) s in
+    record { answer = c.in_ok-frame_of.ensures ∙ sym p.0; moved = record { rest = c.go_on-2.ensures.at ∙ p.1; line = c.go_on-2.ensures.line ∙ sym q } }

@@ -7,4 +7,4 @@ copied : (xs ys post : List ℕ) → ys ≡ xs → take (length xs) (ys ++ post)
 copied xs ys post e = take_at ys post (length xs) (ap length e) ∙ e
 
 pub returns : goal.returns
-returns c = (copied c.args.pins.now c.copy-from-slice.new.self _ c.copy-from-slice.ensures.after, copied c.args.config.now c.copy-from-slice-2.new.self _ c.copy-from-slice-2.ensures.after)
+returns c = (copied c.args.pins.now c.copy_from_slice.new.self _ c.copy_from_slice.ensures.after, copied c.args.config.now c.copy_from_slice-2.new.self _ c.copy_from_slice-2.ensures.after)

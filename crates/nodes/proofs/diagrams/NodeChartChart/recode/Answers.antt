@@ -8,6 +8,6 @@ pub returns : goal.returns
 returns c = (
   c.if-not-recodable.ensures.0 refl,
   became c.args.self.now c.in-Ok.chart (c.args.self.now.arity - c.args.b + c.args.j)
-      (recoded c.args.j (map (place_column c.args.self.now c.args.b) c.args.places.now) (λ q. get_or c.args.class-of.now q 0))
+      (recoded c.args.j (map (place_column c.args.self.now c.args.b) c.args.places.now) (λ q. get_or c.args.class_of.now q 0))
       c.in-Ok.ensures,
 )

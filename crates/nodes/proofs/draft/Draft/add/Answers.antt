@@ -4,8 +4,8 @@ use Rattle.nodes.specs.Drafts.{in_place, drafted, verdict, fits, repeated}
 use Rattle.nodes.proofs.Adding.{stored, sound_of, came, came_again, came_last, kept, full}
 use Rattle.nodes.proofs.draft.Draft.add.Goals as goal
 
-pub invariant-of-self : goal.invariant-of-self
-invariant-of-self c =
+pub invariant_of-self : goal.invariant_of-self
+invariant_of-self c =
     let d = c.args.self.now in
     let ok : in_place d.arity (drafted d) c.new-node.result ≡ true = sym c.if-not-admits.ensures in
     let k = kept d.arity d.store c.make.new.self c.new-node.result (sound_of d) ok c.make.result c.make.ensures in

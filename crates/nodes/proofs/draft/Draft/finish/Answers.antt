@@ -6,8 +6,8 @@ use Rattle.nodes.proofs.Adding.{at_draft}
 use Rattle.nodes.proofs.Naming.{top-there, reached-top}
 use Rattle.nodes.proofs.draft.Draft.finish.Goals as goal
 
-pub invariant-of-result : goal.invariant-of-result
-invariant-of-result c =
+pub invariant_of-result : goal.invariant_of-result
+invariant_of-result c =
     let d = c.args.self.now in
     let xs = d.store.nodes in
     let n = d.store.count in
