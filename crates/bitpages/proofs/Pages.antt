@@ -1,7 +1,7 @@
 -- Pages are written and read in one way.
 use Rattle.std.proofs.Common.{◌≡◌, ℕ, zero, suc, ◌+◌, ◌-◌, ◌*◌, ◌<◌, ◌≤◌, Bool, true, false, cond, ◌&&◌, leb, List, [], ◌∷◌, ◌++◌, map, length, get_or, take, drop, sym, refl, ap, ◌∙◌, inl, inr, append_assoc, suc-mul, zero-mul, arith, lit<}
 use Rattle.std.proofs.lemmas.List.{append-nil, drop_at, get_or_append_left, get_or-drop, get_or_past, get_or-take, length-append, length-drop, length-take-le, nil_from_length, take-append-drop, take_at}
-use Rattle.std.proofs.lemmas.Bool.{cases_lt, cond_true, cond-false, and_from, and_parts, le-leb, leb-true}
+use Rattle.std.proofs.lemmas.Bool.{cases_lt, cond-true, cond-false, and_from, and_parts, le-leb, leb-true}
 use Rattle.std.proofs.lemmas.Bool.Decides.{nat_tests}
 use Rattle.frames.specs.declared.kinds.Kind.TheVariants.{BitPage, Bits}
 use Rattle.frames.specs.Outcome.{Outcome, reading, past, line_after}
@@ -147,7 +147,7 @@ heading-told xs line n e =
 heading-front : (n : ℕ) (rest : List ℕ) (line : ℕ) → 1 ≤ n → n ≤ 12 → heading (line_text (heading_frame n) ++ rest) line ≡ got n
 heading-front n rest line low high =
     ap (λ (o : Outcome). recorded o (headed line)) (due-front BitPage (n ∷ []) rest 1 line refl (omega arith) (λ k. elim k as (λ k. get_or (n ∷ []) k 0 < 256) [ zero ↦ omega arith | suc k ↦ omega arith ]) (lit< tt))
-    ∙ cond_true _ _ _ (and_from (leb 1 n) (leb n 12) (le-leb 1 n low) (le-leb n 12 high))
+    ∙ cond-true _ _ _ (and_from (leb 1 n) (leb n 12) (le-leb 1 n low) (le-leb n 12 high))
 
 -- only the first byte can have spare bits
 clear_each : (n : ℕ) (ds : List ℕ) → TableBytes n ds → (j : ℕ) → spare n (get_or ds j 0) ≡ false

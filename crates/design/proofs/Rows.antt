@@ -4,7 +4,7 @@ use Rattle.std.specs.List.{range_with_len}
 use Rattle.std.proofs.lemmas.List.FromFn.{length-range_with_len, get_or-range_with_len}
 use Rattle.std.proofs.lemmas.List.Edits.{fill_by_more}
 use Rattle.std.proofs.lemmas.List.{length-append, length-drop, length-take-le, get_or-take, get_or-drop, get_or_append_left, get_or-append_right, ext_get_or, take_more, take_more_set, append-nil}
-use Rattle.std.proofs.lemmas.Bool.{cond_true, cond-false, lt-ltb, le-ltb, cases_lt}
+use Rattle.std.proofs.lemmas.Bool.{cond-true, cond-false, lt-ltb, le-ltb, cases_lt}
 use Rattle.functions.specs.Functions.{Fn, bit, value, under}
 use Rattle.functions.proofs.Values.{value_under}
 use Rattle.families.specs.Tables.{tabled}
@@ -53,7 +53,7 @@ live_row live xs m b j first fewer fits small l w f =
         let free = drop b (take m live) in
         ⊎_elim
         (λ h.
-        cond_true (ltb i j) (first + i) (get_or live (i - j + b) 0) (lt-ltb i j h)
+        cond-true (ltb i j) (first + i) (get_or live (i - j + b) 0) (lt-ltb i j h)
         ∙ sym (get_or_append_left news free 0 i (omega arith) ∙ get_or-range_with_len first j i 0 h))
         (λ h.
         let e : b + (i - j) ≡ i - j + b = omega arith in

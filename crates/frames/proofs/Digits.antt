@@ -1,7 +1,7 @@
 -- The bytes that digits write.
 use Rattle.std.proofs.Common.{◌≡◌, ℕ, ◌+◌, ◌*◌, ◌<◌, ◌≤◌, Bool, true, false, cond, ◌&&◌, leb, List, [], ◌∷◌, ◌++◌, length, get_or, take, drop, set, Some, None, Option, sym, refl, ap, ◌∙◌, append_assoc, arith}
 use Rattle.std.proofs.lemmas.List.{drop_more, take_more_set, append-nil, drop_all, length-take-le}
-use Rattle.std.proofs.lemmas.Bool.{cond_both, cond_true, and_parts, and_from, leb-true, le-leb}
+use Rattle.std.proofs.lemmas.Bool.{cond_both, cond-true, and_parts, and_from, leb-true, le-leb}
 use Rattle.frames.specs.Text.{bytes_of, digit_value, paired, bounded}
 
 -- bytes in front of others
@@ -71,7 +71,7 @@ bounded-none (Some bs) f =
     (λ _. refl)
 
 pub bounded-some : (bs : List ℕ) → 2 ≤ length bs → length bs ≤ 24 → bounded (Some bs) ≡ Some bs
-bounded-some bs a b = cond_true _ _ _ (and_from (leb 2 (length bs)) (leb (length bs) 24) (le-leb 2 (length bs) a) (le-leb (length bs) 24 b))
+bounded-some bs a b = cond-true _ _ _ (and_from (leb 2 (length bs)) (leb (length bs) 24) (le-leb 2 (length bs) a) (le-leb (length bs) 24 b))
 
 -- all the digits of such a loop
 pub bytes_all : (ds bs : List ℕ) (n : ℕ) → length ds ≡ 2 * n → 2 ≤ n → n ≤ 24 → n ≤ length bs → onto (take n bs) (bytes_of (drop (2 * n) ds)) ≡ bytes_of ds → Some (take n bs) ≡ bounded (bytes_of ds)

@@ -1,7 +1,7 @@
 -- A frame that is due, at the start of a text.
 use Rattle.std.proofs.Common.{◌≡◌, ℕ, zero, suc, ◌+◌, ◌-◌, ◌%◌, ◌<◌, ◌≤◌, false, eqb, List, [], ◌∷◌, ◌++◌, length, get_or, take, drop, sum, sym, refl, ap, ◌∙◌, arith}
 use Rattle.std.proofs.lemmas.List.{take_all, take_more, length-append, length_push}
-use Rattle.std.proofs.lemmas.Bool.{cond_true, eq-eqb, and_from, or_left}
+use Rattle.std.proofs.lemmas.Bool.{cond-true, eq-eqb, and_from, or_left}
 use Rattle.std.proofs.lemmas.Bool.Decides.{nat_tests}
 use Rattle.frames.specs.declared.kinds.Kind.{Kind}
 use Rattle.frames.specs.Kinds.{kind_byte}
@@ -48,7 +48,7 @@ module _ (k : Kind) where
       let m : s + 2 ≡ length (sealed (kind_byte k ∷ cs)) = omega (arith, length_push (kind_byte k ∷ cs) (sealing (kind_byte k ∷ cs))) in
       let sound : Sound (sealed (kind_byte k ∷ cs)) = (sealed-good (kind_byte k ∷ cs) (omega arith) (omega arith), sealed-bytes (kind_byte k ∷ cs) (bytes_cons (kind_byte k) cs small bytes)) in
       ap (awaited (form k (s + 2) ∷ []) line) (read-good f rest line sound)
-      ∙ cond_true _ _ _ (or_left _ false (and_from (eqb (kind_byte k) (kind_byte k)) (eqb (s + 2) (length f)) (eq-eqb (kind_byte k) (kind_byte k) refl) (eq-eqb (s + 2) (length f) m)))
+      ∙ cond-true _ _ _ (or_left _ false (and_from (eqb (kind_byte k) (kind_byte k)) (eqb (s + 2) (length f)) (eq-eqb (kind_byte k) (kind_byte k) refl) (eq-eqb (s + 2) (length f) m)))
 
   -- and a frame that is read where it is due is such a frame
   awaited-told : (s line : ℕ) (f : List ℕ) (o : Outcome) → awaited (form k (s + 2) ∷ []) line o ≡ frame f → (o ≡ frame f) × (get_or f 0 0 ≡ kind_byte k) × (length f ≡ s + 2)

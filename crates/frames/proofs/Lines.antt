@@ -2,7 +2,7 @@
 use Rattle.std.proofs.Common.{◌≡◌, ℕ, ◌+◌, ◌-◌, ◌<◌, ◌≤◌, true, false, cond, not, eqb, ltb, List, [], ◌∷◌, ◌++◌, length, get_or, take, drop, sym, refl, ap, ◌∙◌, arith}
 use Rattle.std.proofs.lemmas.List.{length-drop, drop-drop, drop_all}
 use Rattle.std.proofs.lemmas.List.Sums.{prefix_len-drop_yes, prefix_len-drop_no, prefix_len-drop_all}
-use Rattle.std.proofs.lemmas.Bool.{cond_true, cond-false, ne_eqb, eq-eqb, not_from_false, not_from_true, lt-ltb, le-ltb}
+use Rattle.std.proofs.lemmas.Bool.{cond-true, cond-false, ne_eqb, eq-eqb, not_from_false, not_from_true, lt-ltb, le-ltb}
 use Rattle.frames.specs.declared.faults.FaultNumbers.{FaultNumbers}
 use Rattle.frames.specs.declared.faults.Flaw.TheVariants.{NoEnd}
 use Rattle.frames.specs.declared.faults.FrameFault.{FrameFault}
@@ -50,7 +50,7 @@ module _ (bs : List ℕ) (at line : ℕ) where
     ended-line h =
         let n = length-drop at bs in
         let w : width (drop at bs) ≡ stop - at = omega arith in (
-          reading-more (drop at bs) line (omega arith) ∙ cond_true _ _ _ (lt-ltb (width (drop at bs)) (length (drop at bs)) (omega arith)) ∙ ap (λ (k : ℕ). line_outcome line (take k (drop at bs))) w,
+          reading-more (drop at bs) line (omega arith) ∙ cond-true _ _ _ (lt-ltb (width (drop at bs)) (length (drop at bs)) (omega arith)) ∙ ap (λ (k : ℕ). line_outcome line (take k (drop at bs))) w,
           ap (λ (k : ℕ). drop k bs) (let q : stop + 1 ≡ at + (width (drop at bs) + 1) = omega arith in q) ∙ sym (drop-drop (width (drop at bs) + 1) at bs),
         )
 

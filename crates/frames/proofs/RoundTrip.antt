@@ -4,7 +4,7 @@ use Rattle.std.specs.List.{AllByRecursion as All}
 use Rattle.std.proofs.lemmas.Bool.Decides.{nat_tests}
 use Rattle.std.proofs.lemmas.List.{take_at, drop_at, take-append-drop, drop_more, length-append, length-take-le}
 use Rattle.std.proofs.lemmas.List.Sums.{prefix_len-le-length}
-use Rattle.std.proofs.lemmas.Bool.{cond_true, cond_both, eqb-true, eq-eqb, ltb-true, ltb-false, lt-ltb, and_parts, leb-true, ne_eqb, not_from_false, not-false}
+use Rattle.std.proofs.lemmas.Bool.{cond-true, cond_both, eqb-true, eq-eqb, ltb-true, ltb-false, lt-ltb, and_parts, leb-true, ne_eqb, not_from_false, not-false}
 use Rattle.frames.specs.declared.frame.Frame.{Frame}
 use Rattle.frames.specs.declared.faults.Flaw.TheVariants.{NoEnd}
 use Rattle.frames.specs.declared.faults.FrameFault.{FrameFault}
@@ -85,8 +85,8 @@ width-hex : (bs rest : List ℕ) → width (hex bs ++ (10 ∷ rest)) ≡ length 
 width-hex [] rest = refl
 width-hex (b ∷ bs) rest =
     let r = width-hex bs rest in
-    let x = cond_true (goes_on (hex_digit (b / 16))) (1 + width (hex_digit (b % 16) ∷ (hex bs ++ (10 ∷ rest)))) 0 (hex_digit-goes_on (b / 16)) in
-    let y = cond_true (goes_on (hex_digit (b % 16))) (1 + width (hex bs ++ (10 ∷ rest))) 0 (hex_digit-goes_on (b % 16)) in
+    let x = cond-true (goes_on (hex_digit (b / 16))) (1 + width (hex_digit (b % 16) ∷ (hex bs ++ (10 ∷ rest)))) 0 (hex_digit-goes_on (b / 16)) in
+    let y = cond-true (goes_on (hex_digit (b % 16))) (1 + width (hex bs ++ (10 ∷ rest))) 0 (hex_digit-goes_on (b % 16)) in
     omega arith
 
 -- the byte at which a line ends
@@ -121,7 +121,7 @@ module _ (bs rest : List ℕ) where
       let xs = hex bs ++ (10 ∷ rest) in
       let n : length (hex bs ++ (10 ∷ rest)) ≡ length (hex bs) + length (10 ∷ rest) = length-append (hex bs) (10 ∷ rest) in
       let w : width (hex bs ++ (10 ∷ rest)) ≡ length (hex bs) = width-hex bs rest in
-      let a : reading xs line ≡ line_outcome line (take (width xs) xs) = reading-more xs line (omega arith) ∙ cond_true _ _ _ (lt-ltb (width xs) (length xs) (omega arith)) in
+      let a : reading xs line ≡ line_outcome line (take (width xs) xs) = reading-more xs line (omega arith) ∙ cond-true _ _ _ (lt-ltb (width xs) (length xs) (omega arith)) in
       let t : take (width xs) xs ≡ hex bs = ap (λ (k : ℕ). take k xs) w ∙ take_at (hex bs) (10 ∷ rest) (length (hex bs)) refl in
       let b : bounded (bytes_of (hex bs)) ≡ Some bs = ap bounded (bytes-hex bs (all_from_bytes bs small)) ∙ bounded-some bs sized.0 sized.1 in
       ap (λ (x : List ℕ). reading x line) line-split ∙ a ∙ ap (line_outcome line) t ∙ ap (judged line (hex bs)) b
@@ -130,7 +130,7 @@ pub line_reads : LineReads
 line_reads bs rest line sized small = (read-line bs rest line sized small, past-line bs rest)
 
 pub read-good : (f rest : List ℕ) (line : ℕ) → Sound f → reading (line_text f ++ rest) line ≡ frame f
-read-good f rest line ((sized, sum-ok), small) = read-line f rest line sized small ∙ cond_true _ _ _ (eq-eqb (sum f % 256) 0 sum-ok)
+read-good f rest line ((sized, sum-ok), small) = read-line f rest line sized small ∙ cond-true _ _ _ (eq-eqb (sum f % 256) 0 sum-ok)
 
 -- what outcomes tell of the text
 module _ (xs : List ℕ) (line : ℕ) where

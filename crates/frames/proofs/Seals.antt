@@ -1,7 +1,7 @@
 -- The byte that makes a frame's sum right.
 use Rattle.std.proofs.Common.{◌≡◌, ℕ, ◌+◌, ◌-◌, ◌*◌, ◌%◌, ◌<◌, ◌≤◌, cond, eqb, ◌⊎◌, List, [], ◌∷◌, ◌++◌, length, get_or, take, drop, set, replicate, Some, sum, Option, sym, refl, ap, ◌∙◌, inl, inr, arith}
 use Rattle.std.proofs.lemmas.List.Sums.{sum_by_push, sum_by_more}
-use Rattle.std.proofs.lemmas.Bool.{cases_lt, cond_true, cond-false, ne_eqb, eq-eqb}
+use Rattle.std.proofs.lemmas.Bool.{cases_lt, cond-true, cond-false, ne_eqb, eq-eqb}
 use Rattle.std.proofs.lemmas.List.{take_all, take_more_set, take_at, length-append, length_push, length-drop, length-take, get_or_append_left, get_or_push, get_or_past, get_or-take}
 use Rattle.frames.specs.declared.faults.FrameFault.TheVariants.{WrongSum}
 use Rattle.frames.specs.Numbers.{numbers}
@@ -54,7 +54,7 @@ front_bytes bs n h k =
 -- the two ways of a line whose characters ds write the bytes bs
 module _ (ds bs : List ℕ) (line : ℕ) (e : Some bs ≡ bounded (bytes_of ds)) where
   pub sum_right : sum bs % 256 ≡ 0 → frame bs ≡ line_outcome line ds
-  sum_right z = sym (cond_true _ _ _ (eq-eqb (sum bs % 256) 0 z)) ∙ ap (judged line ds) e
+  sum_right z = sym (cond-true _ _ _ (eq-eqb (sum bs % 256) 0 z)) ∙ ap (judged line ds) e
 
   pub sum_wrong : (sum bs % 256 ≡ 0 → ⊥) → (right : ℕ) → right ≡ sealing (take (length bs - 1) bs) → fault (numbers 1 2 line 0) (WrongSum line right) ≡ line_outcome line ds
   sum_wrong z right is = ap (λ (b : ℕ). fault (numbers 1 2 line 0) (WrongSum line b)) is ∙ sym (cond-false _ _ _ (ne_eqb (sum bs % 256) 0 z)) ∙ ap (judged line ds) e

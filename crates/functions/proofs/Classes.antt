@@ -15,12 +15,12 @@ use Rattle.functions.proofs.Columns.{length_columns, column_at, column_of, arity
 
 -- ---- one of the functions, or none
 
-or_false : (b : Bool) → (b || false) ≡ b
-or_false false = refl
-or_false true = refl
+or-false : (b : Bool) → (b || false) ≡ b
+or-false false = refl
+or-false true = refl
 
 pub among_push : (f : Fn) (gs : List Fn) (g : Fn) → among f (gs ++ (g ∷ [])) ≡ (among f gs || same_fn g f)
-among_push f [] g = or_false (same_fn g f)
+among_push f [] g = or-false (same_fn g f)
 among_push f (h ∷ gs) g = elim (cases_Bool (same_fn h f)) [
   | inl s ↦ rw s
   | inr s ↦ rw s (among_push f gs g)
@@ -105,7 +105,7 @@ among-noted : (f : Fn) (gs : List Fn) (g : Fn) → among f (noted gs g) ≡ (amo
 among-noted f gs g = elim (cases_Bool (among g gs)) [
   | inl t ↦ elim (cases_Bool (same_fn g f)) [
     | inl s ↦ let there : among f gs ≡ true = subst (λ h. among h gs ≡ true) (same-sound g f s) t in rw (t, there)
-    | inr s ↦ rw (t, s) (sym (or_false (among f gs)))
+    | inr s ↦ rw (t, s) (sym (or-false (among f gs)))
   ]
   | inr t ↦ rw t (among_push f gs g)
 ]

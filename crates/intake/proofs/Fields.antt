@@ -1,7 +1,7 @@
 -- The fields of a cell's frame, and the cell that holds them.
 use Rattle.std.proofs.Common.{◌≡◌, ℕ, ◌+◌, ◌-◌, ◌≤◌, true, false, List, length, take, drop, sym, ap, ◌∙◌, arith}
 use Rattle.std.proofs.lemmas.List.{drop-take, length-drop, length-take-le, take-take}
-use Rattle.std.proofs.lemmas.Bool.{cond_true, cond-false}
+use Rattle.std.proofs.lemmas.Bool.{cond-true, cond-false}
 use Rattle.frames.specs.declared.faults.RecordFault.TheVariants.{BadPin}
 use Rattle.frames.specs.Numbers.{numbers}
 use Rattle.frames.specs.Outcome.{Outcome, frame}
@@ -40,5 +40,5 @@ module _ (n K size k line m : ℕ) (f : List ℕ) (o : Outcome) (is : frame f �
       let cs : take size c.config ≡ take size (drop K (drop 1 f)) = ap (λ (j : ℕ). take j c.config) (sym config-long) ∙ h.1 ∙ config-there in
       ap (λ (t : List ℕ). got (record { pins = t; config = take size c.config })) ps
       ∙ ap (λ (t : List ℕ). got (record { pins = take K (drop 1 f); config = t })) cs
-      ∙ sym (cond_true _ _ _ (ap (pinned n k true) (sym pins-there) ∙ e))
+      ∙ sym (cond-true _ _ _ (ap (pinned n k true) (sym pins-there) ∙ e))
       ∙ ap (λ (o : Outcome). recorded o (wired n K size k line)) is

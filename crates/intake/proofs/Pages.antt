@@ -1,7 +1,7 @@
 -- Network pages are written and read in one way.
 use Rattle.std.proofs.Common.{◌≡◌, ℕ, zero, suc, ◌+◌, ◌<◌, ◌≤◌, Bool, true, false, cond, ◌&&◌, eqb, leb, List, [], ◌∷◌, ◌++◌, map, length, get_or, take, drop, sym, refl, ap, ◌∙◌, append_assoc, arith, lit<}
 use Rattle.std.proofs.lemmas.List.{append-nil, drop_at, drop-take, get_or-drop, length-append, length-drop, length_push, length-take-le, take-append-drop, take_at, take-take}
-use Rattle.std.proofs.lemmas.Bool.{cond_true, and_from, and_parts, le-leb, leb-true, eq-eqb, eqb-true}
+use Rattle.std.proofs.lemmas.Bool.{cond-true, and_from, and_parts, le-leb, leb-true, eq-eqb, eqb-true}
 use Rattle.frames.specs.declared.kinds.Kind.TheVariants as kind
 use Rattle.frames.specs.Kinds.{kind_byte}
 use Rattle.frames.specs.Outcome.{Outcome, reading, past, line_after}
@@ -32,7 +32,7 @@ module _ (K size : ℕ) (few : K ≤ 5) (small : size ≤ 16) where
       let first : take K ((ps ++ cs) ++ end) ≡ ps = ap (take K) (append_assoc ps cs end) ∙ take_at ps (cs ++ end) K wide in
       let last : take size (drop K ((ps ++ cs) ++ end)) ≡ cs = ap (λ (t : List ℕ). take size (drop K t)) (append_assoc ps cs end) ∙ ap (take size) (drop_at ps (cs ++ end) K wide) ∙ take_at cs end size long in
       ap (λ (o : Outcome). recorded o (wired n K size k line)) a
-      ∙ cond_true _ _ _ (ap (pinned n k true) first ∙ pinned_pass n k narrow most K ps p)
+      ∙ cond-true _ _ _ (ap (pinned n k true) first ∙ pinned_pass n k narrow most K ps p)
       ∙ ap (λ (t : List ℕ). got (record { pins = t; config = take size (drop K ((ps ++ cs) ++ end)) })) first
       ∙ ap (λ (t : List ℕ). got (record { pins = ps; config = t })) last
 
@@ -63,7 +63,7 @@ module _ (K size : ℕ) (few : K ≤ 5) (small : size ≤ 16) where
       let narrow : w.inputs ≤ 16 = f.narrow in
       let most : length w.cells ≤ 48 = f.most in
       ap (λ (o : Outcome). recorded o (headed number line)) (due-front kind.Network (number ∷ n ∷ m ∷ []) rest 3 line refl (omega arith) (bytes_cons number (n ∷ m ∷ []) byte (bytes_cons n (m ∷ []) (omega arith) (bytes_cons m [] (omega arith) none))) (lit< tt))
-      ∙ cond_true _ _ _ (and_from (eqb number number) _ (eq-eqb number number refl) (and_from (leb n 16) _ (le-leb n 16 narrow) (and_from (leb 1 m) (leb m 48) (le-leb 1 m f.some) (le-leb m 48 most))))
+      ∙ cond-true _ _ _ (and_from (eqb number number) _ (eq-eqb number number refl) (and_from (leb n 16) _ (le-leb n 16 narrow) (and_from (leb 1 m) (leb m 48) (le-leb 1 m f.some) (le-leb m 48 most))))
 
   -- the text of a well-formed network is taken as that network
   pub written_taken : (number : ℕ) → number < 256 → (w : Network) → WellFormed K size w → intake number K size (network_text number w) ≡ taken w

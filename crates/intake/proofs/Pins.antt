@@ -2,7 +2,7 @@
 use Rattle.std.proofs.Common.{◌≡◌, ℕ, zero, suc, ◌+◌, ◌-◌, ◌<◌, ◌≤◌, Bool, true, false, cond, ◌&&◌, ◌||◌, eqb, ltb, leb, ◌⊎◌, List, [], ◌∷◌, ◌++◌, length, get_or, drop, replicate, sym, refl, ap, ◌∙◌, inl, inr, arith}
 use Rattle.std.specs.List.{AllByRecursion as All}
 use Rattle.std.proofs.lemmas.List.{at_drop_more, length-append, length-replicate}
-use Rattle.std.proofs.lemmas.Bool.{cond_true, cond-false, and_from, and_left, and_right, and_parts, or_left, or_right, or_cases, eq-eqb, eqb-true, ne_eqb, le-leb, leb-true, lt-ltb, ltb-true, false≢true}
+use Rattle.std.proofs.lemmas.Bool.{cond-true, cond-false, and_from, and_left, and_right, and_parts, or_left, or_right, or_cases, eq-eqb, eqb-true, ne_eqb, le-leb, leb-true, lt-ltb, ltb-true, false≢true}
 use Rattle.frames.specs.Text.{Bytes}
 use Rattle.frames.proofs.Forms.{bytes-append}
 use Rattle.intake.specs.Networks.{Signal, Pinned}
@@ -56,7 +56,7 @@ module _ (n k : ℕ) (used : Bool) (ps : List ℕ) (i p : ℕ) (h : i < length p
   pin-there = rw is (at_drop_more (pinned n k used) ps i 0 h)
 
   pub pin_unused : p ≡ 255 → pinned n k false (drop (i + 1) ps) ≡ pinned n k used (drop i ps)
-  pin_unused e = sym (pin-there ∙ cond_true (eqb p 255) _ _ (eq-eqb p 255 e))
+  pin_unused e = sym (pin-there ∙ cond-true (eqb p 255) _ _ (eq-eqb p 255 e))
 
   pub pin-signal : (p ≡ 255 → ⊥) → used ≡ true → signal n k p ≡ true → pinned n k true (drop (i + 1) ps) ≡ pinned n k used (drop i ps)
   pin-signal e u s = sym (pin-there ∙ cond-false (eqb p 255) _ _ (ne_eqb p 255 e) ∙ ap (λ (v : Bool). v && (signal n k p && pinned n k true (drop (i + 1) ps))) u ∙ ap (λ (v : Bool). v && pinned n k true (drop (i + 1) ps)) s)

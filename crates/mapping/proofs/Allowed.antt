@@ -20,9 +20,9 @@ Allowed K s Close = (s.closed ≡ false) × (length s.live ≤ K)
 Allowed K s (Pin x) = Unit {0}
 Allowed K s (Write room) = Unit {0}
 
-not_true : (b : Bool) → (b ≡ true → ⊥) → b ≡ false
-not_true true n = absurd (n refl)
-not_true false n = refl
+not-true : (b : Bool) → (b ≡ true → ⊥) → b ≡ false
+not-true true n = absurd (n refl)
+not-true false n = refl
 
 at_most : (a b : ℕ) → (a < b → ⊥) → b ≤ a
 at_most a b h = ⊎_elim (λ l. absurd (h l)) (λ l. l) (cases_lt a b)
@@ -48,14 +48,14 @@ module _ (code : ℕ → ℕ → ℕ) (K config : ℕ) (fits : Fn → Type 0) (s
   good-done (Write room) = refl
 
   pub passed_allowed : (c : Call) → Passed (checks code K config fits s c) → Allowed K s c
-  passed_allowed (Swap p) h = (not_true s.closed h.0, above (length s.live) (p + 1) h.1.0)
+  passed_allowed (Swap p) h = (not-true s.closed h.0, above (length s.live) (p + 1) h.1.0)
   passed_allowed (Split b j room) h = (
-    not_true s.closed h.0,
+    not-true s.closed h.0,
     ranged K (length s.live) b j h.1.0,
     at_most (2 ^ j) (length (classes (columns b s.left))) h.1.1.1.0,
     at_most 47 (length s.cells + j) h.1.1.1.1.0,
   )
-  passed_allowed Close h = (not_true s.closed h.0, at_most K (length s.live) h.1.0)
+  passed_allowed Close h = (not-true s.closed h.0, at_most K (length s.live) h.1.0)
   passed_allowed (Pin x) h = tt
   passed_allowed (Write room) h = tt
 

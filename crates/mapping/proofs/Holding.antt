@@ -1,6 +1,6 @@
 -- What a state holds of the function that was opened and of the reference function.
 use Rattle.std.proofs.Common.{◌≡◌, ℕ, ◌+◌, ◌^◌, ◌≤◌, Bool, true, false, cond, not, ◌||◌, List, [], ◌∷◌, ◌++◌, length, take, sym, refl, ap, ◌∙◌, subst, ⊎_elim, add-zero, arith}
-use mathlib.Core.Bool.{or-true, or_false, or_assoc}
+use mathlib.Core.Bool.{or-true, or-false, or_assoc}
 use Rattle.std.proofs.lemmas.List.{length_push, map_push}
 use Rattle.std.proofs.lemmas.List.FromFn.{length-range_with_len}
 use Rattle.std.proofs.lemmas.Bool.{cases_lt}
@@ -31,7 +31,7 @@ reference-more code f [] c b = refl
 reference-more code f (e ∷ es) c b = reference-more code (referred code f e.call e.done) es c b
 
 closed-more : (es : List Event) (c : Call) (b : Bool) → is_closed (es ++ (event c b ∷ [])) ≡ (is_closed es || cond b (closes c) false)
-closed-more [] c b = or_false (cond b (closes c) false)
+closed-more [] c b = or-false (cond b (closes c) false)
 closed-more (e ∷ es) c b =
     let d = cond e.done (closes e.call) false in
     ap (λ x. d || x) (closed-more es c b) ∙ sym (or_assoc d (is_closed es) (cond b (closes c) false))
@@ -65,7 +65,7 @@ holds_more : (code : ℕ → ℕ → ℕ) (n : ℕ) (f : Fn) (es : List Event) (
 holds_more code n f es c b t h = rw (reference-more code f es c b, closed-more es c b, made_more es c b) h
 
 unchanged : {n made : ℕ} {f g : Fn} {shut : Bool} {s : State} → Stands n f g shut made s → Stands n f g (shut || false) (made + 0) s
-unchanged {n} {made} {f} {g} {shut} {s} h = rw (or_false shut, add-zero made) h
+unchanged {n} {made} {f} {g} {shut} {s} h = rw (or-false shut, add-zero made) h
 
 module _ {R : Type 0} (code : R → ℕ → ℕ → ℕ) (laws : Laws code) (r : R) (K config : ℕ) (fits : Fn → Type 0) (n : ℕ) (f : Fn) (few_pins : K ≤ 5) (few : n ≤ 16) where
   module _ (es : List Event) (s : State) (h : Holds (code r) n f es s) (x : Built n K s) where
@@ -77,7 +77,7 @@ module _ {R : Type 0} (code : R → ℕ → ℕ → ℕ) (laws : Laws code) (r :
       left = ap (exchanged p) h.left ∙ exchanged_negated p ref;
       arity = subst (λ k. Arity k (exchanged p ref)) (sym (length_swapped p s.live)) (arity_exchanged p (length s.live) ref d.1 h.arity);
       pins = λ vs l. ap not (swapped-value s vs p d.1) ∙ sym (open_pin s vs d.0) ∙ h.pins vs l;
-      closed = sym d.0 ∙ h.closed ∙ sym (or_false (is_closed es));
+      closed = sym d.0 ∙ h.closed ∙ sym (or-false (is_closed es));
       cells = let k = h.cells in omega arith;
     }
     holds_next (Split b j room) d =
@@ -87,7 +87,7 @@ module _ {R : Type 0} (code : R → ℕ → ℕ → ℕ) (laws : Laws code) (r :
           left = ap (coded (code r) b j) h.left ∙ coded-negated (code r) b j ref;
           arity = subst (λ k. Arity k (coded (code r) b j ref)) (sym (width-split (code r) b j s)) (arity-coded (code r) b j ref (length s.live) u.bound h.arity);
           pins = λ vs l. ap not (split-value s vs l (live-within n K few s x) b j u.bound code laws r small d.2) ∙ sym (open_pin s vs d.0) ∙ h.pins vs l;
-          closed = sym d.0 ∙ h.closed ∙ sym (or_false (is_closed es));
+          closed = sym d.0 ∙ h.closed ∙ sym (or-false (is_closed es));
           cells = count-split (code r) b j s ∙ ap (λ k. k + j) h.cells;
         }
     holds_next Close d = record {

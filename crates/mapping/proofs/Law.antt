@@ -1,7 +1,7 @@
 -- The law over every list of calls.
 use Rattle.std.proofs.Common.{◌≡◌, ℕ, ◌≤◌, Bool, true, not, List, [], sym, ap, ◌∙◌, arith}
 use Rattle.std.proofs.lemmas.List.{length-map}
-use Rattle.std.proofs.lemmas.Bool.{cond_true}
+use Rattle.std.proofs.lemmas.Bool.{cond-true}
 use Rattle.functions.specs.Functions.{Fn, Arity}
 use Rattle.rules.specs.Codes.{Laws}
 use Rattle.families.specs.Laws.{meant}
@@ -43,6 +43,6 @@ every_network_keeps code laws r {pins = pins} {size = size} {packed = packed} {r
       formed = record { narrow = few; some = omega arith; most = omega arith; wired = cells-wired family a n few 0 s.cells x.cells };
       pins = λ vs l.
           ap (λ ys. not (last ys)) (cells_same family a n few 0 vs s.cells (omega arith) x.cells)
-          ∙ ap not (sym (cond_true s.closed (last (yielded yield vs s.cells)) (left_value s vs) closed))
+          ∙ ap not (sym (cond-true s.closed (last (yielded yield vs s.cells)) (left_value s vs) closed))
           ∙ h.pins vs l;
     }

@@ -1,7 +1,7 @@
 -- The nodes of a page, read one after another.
 use Rattle.std.proofs.Common.{◌≡◌, ℕ, suc, ◌+◌, ◌-◌, ◌<◌, ◌≤◌, Bool, true, false, cond, ◌&&◌, eqb, ltb, leb, List, [], ◌∷◌, ◌++◌, length, Some, None, Option, sym, refl, ap, ◌∙◌, inl, inr, arith}
 use Rattle.std.proofs.lemmas.List.{length_push}
-use Rattle.std.proofs.lemmas.Bool.{and_parts, cases_Bool, cond_true, cond-false, eq-eqb, ne_eqb, eqb-true, leb-true, ltb-true, cases_eq}
+use Rattle.std.proofs.lemmas.Bool.{and_parts, cases_Bool, cond-true, cond-false, eq-eqb, ne_eqb, eqb-true, leb-true, ltb-true, cases_eq}
 use Rattle.frames.specs.declared.faults.FaultNumbers.{FaultNumbers}
 use Rattle.frames.specs.declared.faults.PageFault.TheVariants.{Record, Missing}
 use Rattle.frames.specs.declared.faults.RecordFault.{RecordFault}
@@ -71,14 +71,14 @@ ranged h e =
 -- the root that a heading may give is the number of the last node, or of an end
 end-number : (r : ℕ) → r < 2 → cond (eqb r 1) 1 0 ≡ r
 end-number r h = elim (cases_eq r 1) [
-  | inl e ↦ cond_true (eqb r 1) 1 0 (eq-eqb r 1 e) ∙ sym e
+  | inl e ↦ cond-true (eqb r 1) 1 0 (eq-eqb r 1 e) ∙ sym e
   | inr e ↦ cond-false (eqb r 1) 1 0 (ne_eqb r 1 e) ∙ omega arith
 ]
 
 pub top_right : (ys : List Node) (k r : ℕ) → length ys ≡ k → right_root k r ≡ true → top ys (eqb r 1) ≡ r
 top_right [] k r long e =
     let z : k ≡ 0 = sym long in
-    let l : ltb r 2 ≡ true = sym (cond_true (eqb k 0) (ltb r 2) (eqb r (k + 1)) (eq-eqb k 0 z)) ∙ e in
+    let l : ltb r 2 ≡ true = sym (cond-true (eqb k 0) (ltb r 2) (eqb r (k + 1)) (eq-eqb k 0 z)) ∙ e in
     end-number r (ltb-true r 2 l)
 top_right (y ∷ ys) k r long e =
     let l : eqb r (k + 1) ≡ true = sym (cond-false (eqb k 0) (ltb r 2) (eqb r (k + 1)) (ne_eqb k 0 (λ z. omega arith))) ∙ e in
@@ -90,7 +90,7 @@ unnamed-there n k [] e = let z : ◌≡◌ {A = ℕ} 0 1 = cc in absurd (omega a
 unnamed-there n k (x ∷ []) e = let z : ◌≡◌ {A = ℕ} 0 1 = cc in absurd (omega arith)
 unnamed-there n k (x ∷ y ∷ ys) e = elim (cases_Bool (names n (y ∷ ys))) [
   | inl t ↦
-      let r = unnamed-there (n + 1) k (y ∷ ys) (sym (cond_true (names n (y ∷ ys)) (unnamed (n + 1) (y ∷ ys)) (Some n) t) ∙ e) in
+      let r = unnamed-there (n + 1) k (y ∷ ys) (sym (cond-true (names n (y ∷ ys)) (unnamed (n + 1) (y ∷ ys)) (Some n) t) ∙ e) in
       (omega arith, omega arith)
   | inr t ↦
       let f = cond-false (names n (y ∷ ys)) (unnamed (n + 1) (y ∷ ys)) (Some n) t in

@@ -2,7 +2,7 @@
 use Rattle.std.proofs.Common.{◌≡◌, ℕ, zero, suc, ◌+◌, ◌-◌, ◌<◌, ◌≤◌, Bool, true, false, cond, ◌||◌, eqb, ltb, ◌⊎◌, List, [], ◌∷◌, ◌++◌, length, get_or, take, drop, Ok, Err, Decides, Result, sym, refl, ap, ◌∙◌, subst, inl, inr, ⊎_elim, arith, MatchResult}
 use Rattle.std.specs.List.{HoldsAt}
 use Rattle.std.proofs.lemmas.List.{get_or_default, get_or-take, length-take-le, take_more_set}
-use Rattle.std.proofs.lemmas.Bool.{and_parts, and_from, or_left, or_right, or_from, cases_Bool, cond_true, cond-false, eqb-true, eq-eqb, ne_eqb, ltb-true, true≢false}
+use Rattle.std.proofs.lemmas.Bool.{and_parts, and_from, or_left, or_right, or_from, cases_Bool, cond-true, cond-false, eqb-true, eq-eqb, ne_eqb, ltb-true, true≢false}
 use Rattle.std.proofs.lemmas.Bool.Decides.{Decides-by_or}
 use Rattle.nodes.specs.declared.node.Node.{Node}
 use Rattle.nodes.specs.declared.draft.Draft.{Draft}
@@ -80,10 +80,10 @@ pub verdict-misplaced : (m : ℕ) (ys : List Node) (y : Node) → in_place m ys 
 verdict-misplaced m ys y e = cond-false _ _ _ e
 
 verdict-repeated : (m : ℕ) (ys : List Node) (y : Node) → in_place m ys y ≡ true → (eqb y.low y.high || among y ys) ≡ true → verdict m ys y ≡ repeated
-verdict-repeated m ys y e d = cond_true _ _ _ e ∙ cond_true _ _ _ d
+verdict-repeated m ys y e d = cond-true _ _ _ e ∙ cond-true _ _ _ d
 
 verdict-fits : (m : ℕ) (ys : List Node) (y : Node) → in_place m ys y ≡ true → (y.low ≡ y.high → ⊥) → among y ys ≡ false → verdict m ys y ≡ fits
-verdict-fits m ys y e apart none = cond_true _ _ _ e ∙ cond-false _ _ _ (or_from _ _ (ne_eqb y.low y.high apart) none)
+verdict-fits m ys y e apart none = cond-true _ _ _ e ∙ cond-false _ _ _ (or_from _ _ (ne_eqb y.low y.high apart) none)
 
 -- the nodes of a store
 abbrev pub stored : Store → List Node

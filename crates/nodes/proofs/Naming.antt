@@ -2,7 +2,7 @@
 use Rattle.std.proofs.Common.{◌≡◌, ℕ, zero, suc, ◌+◌, ◌-◌, ◌<◌, ◌≤◌, Bool, true, false, cond, ◌||◌, eqb, ltb, ◌⊎◌, List, [], ◌∷◌, ◌++◌, length, get_or, take, drop, Some, None, Decides, Option, sym, refl, ap, ◌∙◌, subst, inl, inr, ⊎_elim, arith}
 use Rattle.std.specs.List.{HoldsAt}
 use Rattle.std.proofs.lemmas.List.{at_drop_more, at_drop_all, drop_all, drop_more, get_or-drop, get_or-take, length-drop, length-take-le, take-append-drop, take_more}
-use Rattle.std.proofs.lemmas.Bool.{cases_Bool, cases_lt, cond_true, cond-false, eqb-true, eq-eqb, or_cases, or_left, or_right, true≢false}
+use Rattle.std.proofs.lemmas.Bool.{cases_Bool, cases_lt, cond-true, cond-false, eqb-true, eq-eqb, or_cases, or_left, or_right, true≢false}
 use Rattle.std.proofs.lemmas.Bool.Decides.{Decides-by_or, Decides-or, Decides-eqb}
 use Rattle.nodes.specs.declared.node.Node.{Node}
 use Rattle.nodes.specs.Diagrams.{at, blank, Ordered, Reach, start, to_low, to_high, Reached}
@@ -30,9 +30,9 @@ names-append n [] ys = refl
 names-append n (x ∷ xs) ys = let p = child n x in ap (λ (b : Bool). p || b) (names-append n xs ys) ∙ or_joined p (names n xs) (names n ys)
 
 -- the marks of two children more
-or_false : (a : Bool) → (a || false) ≡ a
-or_false true = refl
-or_false false = refl
+or-false : (a : Bool) → (a || false) ≡ a
+or-false true = refl
+or-false false = refl
 
 spread_names : (old new : List Bool) (y : Node) → Spread old new y → (n : ℕ) → get_or new n false ≡ (get_or old n false || child n y)
 spread_names old new y s n = elim (cases_Bool (get_or old n false || child n y)) [
@@ -52,7 +52,7 @@ pub names_more : (xs : List Node) (i : ℕ) → i < length xs → (old new : Lis
 names_more xs i h old new s e n =
     let y = get_or xs i blank in
     let p = child n (get_or xs i blank) in
-    spread_names old new y s n ∙ ap (λ (b : Bool). b || p) (e n) ∙ ap (λ (b : Bool). names n (take i xs) || b) (sym (or_false p)) ∙ sym (names-append n (take i xs) (y ∷ [])) ∙ sym (ap (names n) (take_more xs i blank h))
+    spread_names old new y s n ∙ ap (λ (b : Bool). b || p) (e n) ∙ ap (λ (b : Bool). names n (take i xs) || b) (sym (or-false p)) ∙ sym (names-append n (take i xs) (y ∷ [])) ∙ sym (ap (names n) (take_more xs i blank h))
 
 -- one node further in the search for the smallest that none names
 pub unnamed-more : (ys : List Node) (n i : ℕ) → i + 1 < length ys → unnamed n (drop i ys) ≡ cond (names n (drop (i + 1) ys)) (unnamed (n + 1) (drop (i + 1) ys)) (Some n)
@@ -126,7 +126,7 @@ named-at n (x ∷ y ∷ ys) e zero h = elim (cases_Bool (names n (y ∷ ys))) [
 named-at n (x ∷ y ∷ ys) e (suc j) h = elim (cases_Bool (names n (y ∷ ys))) [
   | inl is ↦
       let z : n + suc j ≡ n + 1 + j = omega arith in
-      let f : unnamed (n + 1) (y ∷ ys) ≡ None = sym (cond_true (names n (y ∷ ys)) (unnamed (n + 1) (y ∷ ys)) (Some n) is) ∙ e in
+      let f : unnamed (n + 1) (y ∷ ys) ≡ None = sym (cond-true (names n (y ∷ ys)) (unnamed (n + 1) (y ∷ ys)) (Some n) is) ∙ e in
       ap (λ (k : ℕ). names k (drop (suc j) (y ∷ ys))) z ∙ named-at (n + 1) (y ∷ ys) f j (omega arith)
   | inr is ↦ absurd (never n (y ∷ ys) is e)
 ]

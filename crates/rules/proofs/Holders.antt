@@ -1,13 +1,13 @@
 -- The class of a code.
 use Rattle.std.proofs.Common.{◌≡◌, ℕ, zero, suc, ◌+◌, ◌<◌, ◌≤◌, eqb, sym, refl, ap, ◌∙◌, subst, ⊎_elim, lt_of_lt_of_le, le_of_suc-le-suc, not-suc-le-zero, eq-or-lt_of_le, add-one, arith}
 use native.Mathlib.Nat.{min-eq_left}
-use Rattle.std.proofs.lemmas.Bool.{eq-eqb, ne_eqb, cases_eq, cond_true, cond-false}
+use Rattle.std.proofs.lemmas.Bool.{eq-eqb, ne_eqb, cases_eq, cond-true, cond-false}
 use Rattle.rules.specs.Codes.{Laws, HolderLaws, holder}
 use Rattle.rules.specs.Limits.{room_small}
 
 -- one class more: it has the code, or it has not
 pub holder-here : (code : ℕ → ℕ) (k q : ℕ) → code k ≡ q → holder code q (k + 1) ≡ k
-holder-here code k q e = rw add-one (cond_true (eqb (code k) q) k (holder code q k) (eq-eqb (code k) q e))
+holder-here code k q e = rw add-one (cond-true (eqb (code k) q) k (holder code q k) (eq-eqb (code k) q e))
 
 pub holder_before : (code : ℕ → ℕ) (k q : ℕ) → (code k ≡ q → ⊥) → holder code q (k + 1) ≡ holder code q k
 holder_before code k q n = rw add-one (cond-false (eqb (code k) q) k (holder code q k) (ne_eqb (code k) q n))
@@ -23,7 +23,7 @@ holder-held code zero c only l = absurd (not-suc-le-zero l)
 holder-held code (suc k) c only l =
     let before : (code k ≡ code c → ⊥) → c < k = λ n. ⊎_elim (λ e. absurd (n (ap code (sym e)))) (λ m. omega arith) (eq-or-lt_of_le (le_of_suc-le-suc l)) in
     ⊎_elim
-    (λ e. cond_true (eqb (code k) (code c)) k (holder code (code c) k) (eq-eqb (code k) (code c) e) ∙ only k (omega arith) e)
+    (λ e. cond-true (eqb (code k) (code c)) k (holder code (code c) k) (eq-eqb (code k) (code c) e) ∙ only k (omega arith) e)
     (λ n. cond-false (eqb (code k) (code c)) k (holder code (code c) k) (ne_eqb (code k) (code c) n) ∙ holder-held code k c (λ d m. only d (omega arith)) (before n))
     (cases_eq (code k) (code c))
 

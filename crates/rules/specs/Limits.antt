@@ -1,11 +1,11 @@
 -- Codes that different classes do not share make a rule, once they are 0 for the classes that have none.
 use Rattle.std.specs.Prelude.{◌≡◌, ℕ, ◌^◌, ◌<◌, ◌≤◌, nat_le, nat_lt}
 use Rattle.std.proofs.Common.{sym, ◌∙◌, subst, arith, lit≤, pow_mono}
-use Rattle.std.proofs.lemmas.Bool.{lt-ltb, le-ltb, leb-true, le-leb, lt-leb, cond_true, cond-false, cond_both}
+use Rattle.std.proofs.lemmas.Bool.{lt-ltb, le-ltb, leb-true, le-leb, lt-leb, cond-true, cond-false, cond_both}
 use Rattle.rules.specs.Codes.{Laws, room, limited}
 
 pub room_small : (j : ℕ) → j ≤ 4 → room j ≡ 2 ^ j
-room_small j h = cond_true (nat_le j 4) (2 ^ j) 0 (le-leb j 4 h)
+room_small j h = cond-true (nat_le j 4) (2 ^ j) 0 (le-leb j 4 h)
 
 pub room_wide : (j : ℕ) → 4 < j → room j ≡ 0
 room_wide j h = cond-false (nat_le j 4) (2 ^ j) 0 (lt-leb j 4 h)
@@ -16,7 +16,7 @@ room_few j = cond_both (nat_le j 4) (2 ^ j) 0 (λ n. n ≤ 16) (λ e. pow_mono (
 -- a class that has a code
 pub limited_in : (codes : ℕ → ℕ) (j c : ℕ) → j ≤ 4 → c < 2 ^ j → limited codes j c ≡ codes c
 limited_in codes j c h l =
-    cond_true (nat_lt c (room j)) (codes c) 0 (lt-ltb c (room j) (subst (λ (n : ℕ). c < n) (sym (room_small j h)) l))
+    cond-true (nat_lt c (room j)) (codes c) 0 (lt-ltb c (room j) (subst (λ (n : ℕ). c < n) (sym (room_small j h)) l))
 
 -- and one that has none
 pub limited_out : (codes : ℕ → ℕ) (j c : ℕ) → room j ≤ c → limited codes j c ≡ 0

@@ -1,13 +1,13 @@
 -- A table that passes its test has a code for each class, and different ones for different classes.
 use Rattle.std.specs.Prelude.{◌≡◌, ℕ, zero, suc, ◌^◌, ◌<◌, ◌≤◌, true, not, ◌&&◌, List, [], ◌∷◌, length, take, ◌==◌, ◌≢◌, nat_lt, slice_index, refl}
 use Rattle.std.proofs.Common.{sym, ap, subst, ◌∙◌, ⊎_elim, le_of_suc-le-suc, not-suc-le-zero, eq-or-lt_of_le, le_trans, arith, pow_mono, get_or-take, length-take-le}
-use Rattle.std.proofs.lemmas.Bool.{and_parts, not_true, eqb-false, ltb-true}
+use Rattle.std.proofs.lemmas.Bool.{and_parts, not-true, eqb-false, ltb-true}
 use Rattle.rules.specs.Tables.{lacking, distinct_below, coding}
 
 -- what the test tells of each entry
 lacking_at : (x : ℕ) (xs : List ℕ) → lacking x xs ≡ true → (i : ℕ) → i < length xs → x ≢ slice_index xs i
 lacking_at x [] t i h e = not-suc-le-zero h
-lacking_at x (y ∷ ys) t zero h e = eqb-false x y (not_true (x == y) (and_parts (not (x == y)) (lacking x ys) t).0) e
+lacking_at x (y ∷ ys) t zero h e = eqb-false x y (not-true (x == y) (and_parts (not (x == y)) (lacking x ys) t).0) e
 lacking_at x (y ∷ ys) t (suc i) h e = lacking_at x ys (and_parts (not (x == y)) (lacking x ys) t).1 i (le_of_suc-le-suc h) e
 
 below_at : (n : ℕ) (xs : List ℕ) → distinct_below n xs ≡ true → (i : ℕ) → i < length xs → slice_index xs i < n

@@ -24,7 +24,7 @@ loop-at-init c = (c.told-bytes, left_all c.args.n (left c.args.reader.now) c.arg
 
 pub returns-in_err-frame : goal.returns-in_err-frame
 returns-in_err-frame c =
-    let p = err_from_is_err_and c.from-residual.result c.from-residual.ensures.1 in
+    let p = err_from_is_err_and c.from_residual.result c.from_residual.ensures.1 in
     let e = c.in_err-frame.field-0.0 in
     let l = left-bad c.loop-at.invariant.1 (omega arith) (record_numbers e) e c.in_err-frame.ensures.answer in
     rw (p.1, p.2) l

@@ -5,8 +5,8 @@ use Rattle.bitpages.proofs.Packing.{byte_of-set, byte_of_skip}
 use Rattle.bitpages.proofs.writing.byte_of.Goals as goal
 use Rattle.bitpages.proofs.writing.byte_of.Goals.{then-eight-j, else-eight-j}
 
-pub overflow-add-byte : goal.overflow-add-byte
-overflow-add-byte c = omega (arith, (byte_of-set c.args.eight.now c.loop-j.j (omega arith) c.loop-j.byte c.if-eight-j.true c.loop-j.invariant (omega arith)).1)
+pub overflow_add-byte : goal.overflow_add-byte
+overflow_add-byte c = omega (arith, (byte_of-set c.args.eight.now c.loop-j.j (omega arith) c.loop-j.byte c.if-eight-j.true c.loop-j.invariant (omega arith)).1)
 
 pub loop-j-preserved : goal.loop-j-preserved
 loop-j-preserved c = elim c.if-eight-j.branch [

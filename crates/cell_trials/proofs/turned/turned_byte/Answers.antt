@@ -3,8 +3,8 @@ use Rattle.families.specs.Tables.{entry_of, tabled}
 use Rattle.families.proofs.TableEntries.{tabled-below, tabled-more}
 use Rattle.cell_trials.proofs.turned.turned_byte.Goals as goal
 
-pub overflow-add-byte : goal.overflow-add-byte
-overflow-add-byte c =
+pub overflow_add-byte : goal.overflow_add-byte
+overflow_add-byte c =
     let e = c.loop-e.e in
     let more = tabled-more e (λ i. entry_of c.args.table (7 - i)) in
     let next : c.loop-e.byte + c.weighed-byte.result ≡ tabled (e + 1) (λ i. entry_of c.args.table (7 - i)) = cc in

@@ -2,8 +2,8 @@ use Rattle.std.proofs.Common.{◌-◌, ◌^◌, ◌≤◌, leb, ap, ◌∙◌, a
 use Rattle.charts.proofs.Stretches.{there_test}
 use Rattle.charts.proofs.bit_chart.has.Goals as goal
 
-pub overflow-sub-result : goal.overflow-sub-result
-overflow-sub-result c =
+pub overflow_sub-result : goal.overflow_sub-result
+overflow_sub-result c =
     let part : 2 ^ c.args.k ≤ 2 ^ c.args.m = pow_mono c.requires.within in
     omega (arith, c.power.ensures.within (omega arith), c.power-then-place-power.ensures.within (omega arith))
 

@@ -17,7 +17,7 @@ returns-in_err-high c =
     let e = c.in_err-high.ensures.value in
     let b = no_high c.args.digits.now (take c.loop-i.i c.loop-i.out) c.loop-i.i (omega arith) (sym e) in
     let all = c.loop-i.invariant.1 in
-    let r = c.from-residual.ensures in
+    let r = c.from_residual.ensures in
     rw r (record { value = cc (ap bounded (sym all ∙ b)); sized = tt })
 
 pub returns-in_err-low : goal.returns-in_err-low
@@ -26,7 +26,7 @@ returns-in_err-low c =
     let e = c.in_err-low.ensures.value in
     let b = no_low c.args.digits.now (take c.loop-i.i c.loop-i.out) c.loop-i.i (omega arith) (sym e) in
     let all = c.loop-i.invariant.1 in
-    let r = c.from-residual-in_err-low.ensures in
+    let r = c.from_residual-in_err-low.ensures in
     rw r (record { value = cc (ap bounded (sym all ∙ b)); sized = tt })
 
 pub loop-i-preserved : goal.loop-i-preserved

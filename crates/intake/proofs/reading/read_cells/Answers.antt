@@ -12,7 +12,7 @@ use Rattle.intake.proofs.reading.read_cells.Goals as goal
 
 pub returns-in_err-cell : goal.returns-in_err-cell
 returns-in_err-cell c =
-    let p = err_from_is_err_and c.from-residual.result c.from-residual.ensures.1 in
+    let p = err_from_is_err_and c.from_residual.result c.from_residual.ensures.1 in
     let e = c.in_err-cell.field-0.0 in
     let l = left-bad c.loop-before.invariant.2 (omega arith) (record_numbers e) e c.in_err-cell.ensures.answer in
     rw (p.1, p.2) (sym l)

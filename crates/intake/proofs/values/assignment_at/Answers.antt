@@ -25,11 +25,11 @@ module _ (vs : List Bool) (ps : List ℕ) (i n : ℕ) (h : i < length ps) (few :
       let d : 2 * n + bool_byte b ≡ assignment (map (pin_value vs) (take i ps) ++ (b ∷ [])) = omega (arith, a, (digit b).0, is) in
       d ∙ ap (λ (b : Bool). assignment (xs ++ (b ∷ []))) e ∙ ap assignment (sym (map_more (pin_value vs) ps i 0 h))
 
-pub overflow-mul-number : goal.overflow-mul-number
-overflow-mul-number c = omega (arith, below c.args.values.now c.args.pins.now c.loop-pin.pin-index c.loop-pin.number c.loop-pin-test.true c.requires c.loop-pin.invariant)
+pub overflow_mul-number : goal.overflow_mul-number
+overflow_mul-number c = omega (arith, below c.args.values.now c.args.pins.now c.loop-pin.pin-index c.loop-pin.number c.loop-pin-test.true c.requires c.loop-pin.invariant)
 
-pub overflow-add-number : goal.overflow-add-number
-overflow-add-number c =
+pub overflow_add-number : goal.overflow_add-number
+overflow_add-number c =
     let b = below c.args.values.now c.args.pins.now c.loop-pin.pin-index c.loop-pin.number c.loop-pin-test.true c.requires c.loop-pin.invariant in
     omega (arith, (digit c.args.values.now c.args.pins.now c.loop-pin.pin-index c.loop-pin.number c.loop-pin-test.true c.requires c.loop-pin.invariant c.value_at.result).1, c.from.ensures)
 

@@ -24,7 +24,7 @@ read_node-requires c = omega (arith, c.loop-i.invariant.1)
 
 pub returns-in_err-read_node : goal.returns-in_err-read_node
 returns-in_err-read_node c =
-    let p = err_from_is_err_and c.from-residual.result c.from-residual.ensures.1 in
+    let p = err_from_is_err_and c.from_residual.result c.from_residual.ensures.1 in
     let e = c.in_err-read_node.field-0.0 in
     let d = c.loop-i.draft in
     let xs = left c.loop-i.reader in

@@ -21,11 +21,11 @@ read_nodes-requires c =
     let n = c.new.ensures in
     record { none = (rw c.unwrap-draft.ensures at n).1; room = (ranged c.in-Some.heading e).few }
 
-pub overflow-sub-line : goal.overflow-sub-line
-overflow-sub-line c = let u = unnamed-there 2 c.in-Err.unnamed.node (drafted c.read_nodes.new.draft) c.in-Err.ensures in omega (arith, u.0)
+pub overflow_sub-line : goal.overflow_sub-line
+overflow_sub-line c = let u = unnamed-there 2 c.in-Err.unnamed.node (drafted c.read_nodes.new.draft) c.in-Err.ensures in omega (arith, u.0)
 
-pub overflow-add-line : goal.overflow-add-line
-overflow-add-line c =
+pub overflow_add-line : goal.overflow_add-line
+overflow_add-line c =
     let u = unnamed-there 2 c.in-Err.unnamed.node (drafted c.read_nodes.new.draft) c.in-Err.ensures in
     let r = c.in_ok-heading.ensures.range in
     let e : in_range c.in-Some.heading ≡ true = rw c.in-Some.is at r in

@@ -37,7 +37,7 @@ returns-in_err-number c =
     let P : Node → Type 0 = λ y. ((renamed y new).low ≡ (renamed y new).high → ⊥) × Absent xs n (renamed y new) in
     let q : P (at raw (c.loop-i.i + 2)) = subst P (sym (at-index raw c.loop-i.i)) (e.2, e.3) in
     let more = full_up c.args.arity raw c.requires.ordered c.args.root c.requires.rooted c.args.marks.now c.requires.marked c.loop-i.i il (sym c.if-is_marked.ensures) new xs n inv.2 inv.3 len q.0 q.1 in
-    MatchResult-from_err c.from-residual.result _ _ c.from-residual.ensures.0 (λ y. omega (arith, more, e.1))
+    MatchResult-from_err c.from_residual.result _ _ c.from_residual.ensures.0 (λ y. omega (arith, more, e.1))
 
 pub loop-i-preserved : goal.loop-i-preserved
 loop-i-preserved c =

@@ -21,8 +21,8 @@ found_end reader (Some l) n h = absurd (n l refl)
 pub loop-all-init : goal.loop-all-init
 loop-all-init c = so_far_none _ _ _ _ c.new-reader.ensures.rest c.new-reader.ensures.first c.new-all.ensures.bytes
 
-pub overflow-add-faulty : goal.overflow-add-faulty
-overflow-add-faulty c =
+pub overflow_add-faulty : goal.overflow_add-faulty
+overflow_add-faulty c =
     let r = c.loop-all.reader in
     let l = found_line r _ c.in-Some.line c.in-Some.is c.in_ok-line.ensures.found in
     let some = some_left (left r) r.line l.more in
@@ -56,15 +56,15 @@ loop-all-preserved c =
 stays : (before after : FrameReader) → reading (left before) before.line ≡ end → Moved before after → after.line ≡ before.line
 stays before after e moved = moved.line ∙ ap (λ (xs : List ℕ). line_after xs before.line) (end_read (left before) before.line e)
 
-pub overflow-sub-lines : goal.overflow-sub-lines
-overflow-sub-lines c =
+pub overflow_sub-lines : goal.overflow_sub-lines
+overflow_sub-lines c =
     let ended = found_end c.loop-all.reader _ c.in-default.not-Some c.in_ok-line.ensures.found in
     let same = stays c.loop-all.reader c.next_line.new.reader ended c.in_ok-line.ensures.moved in
     let some = some-line c.loop-all.invariant in
     omega arith
 
-pub overflow-sub-lines-2 : goal.overflow-sub-lines-2
-overflow-sub-lines-2 c =
+pub overflow_sub-lines-2 : goal.overflow_sub-lines-2
+overflow_sub-lines-2 c =
     let ended = found_end c.loop-all.reader _ c.in-default.not-Some c.in_ok-line.ensures.found in
     let same = stays c.loop-all.reader c.next_line.new.reader ended c.in_ok-line.ensures.moved in
     let few = fewer_faulty c.loop-all.invariant in

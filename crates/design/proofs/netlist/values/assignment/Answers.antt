@@ -13,11 +13,11 @@ small a vs ps i h l e =
     let p : 2 ^ length (values vs (take i ps)) ≤ 2 ^ 15 = pow_mono {i = length (values vs (take i ps))} {j = 15} (omega arith) in
     omega (arith, number_below (values vs (take i ps)))
 
-pub overflow-mul-a : goal.overflow-mul-a
-overflow-mul-a c = let h = small c.loop-s.a c.args.table.now c.args.signals.now c.loop-s.s-index (omega arith) c.requires c.loop-s.invariant in omega arith
+pub overflow_mul-a : goal.overflow_mul-a
+overflow_mul-a c = let h = small c.loop-s.a c.args.table.now c.args.signals.now c.loop-s.s-index (omega arith) c.requires c.loop-s.invariant in omega arith
 
-pub overflow-add-a : goal.overflow-add-a
-overflow-add-a c = let h = small c.loop-s.a c.args.table.now c.args.signals.now c.loop-s.s-index (omega arith) c.requires c.loop-s.invariant in omega (arith, c.digit.ensures.small)
+pub overflow_add-a : goal.overflow_add-a
+overflow_add-a c = let h = small c.loop-s.a c.args.table.now c.args.signals.now c.loop-s.s-index (omega arith) c.requires c.loop-s.invariant in omega (arith, c.digit.ensures.small)
 
 pub loop-s-preserved : goal.loop-s-preserved
 loop-s-preserved c =

@@ -22,7 +22,7 @@ returns-in_err-frame_of c =
     let s = c.line_end-end.ensures.value in
     let p = ended-line c.args.self.now.bytes.now c.args.self.now.at c.args.self.now.line c.line_end-end.result (omega arith) s (omega arith) in
     let q = next-line c.args.self.now.bytes.now c.args.self.now.at c.args.self.now.line c.line_end-end.result (omega arith) s in
-    let e = err_from_is_err_and c.from-residual.result c.from-residual.ensures.1 in
+    let e = err_from_is_err_and c.from_residual.result c.from_residual.ensures.1 in
     rw (e.1, e.2) (record { answer = c.in_err-frame_of.ensures ∙ sym p.0; moved = record { rest = c.go_on-2.ensures.at ∙ p.1; line = c.go_on-2.ensures.line ∙ sym q } })
 
 pub returns : goal.returns
