@@ -9,6 +9,10 @@ abbrev pub onto : List ℕ → Option (List ℕ) → Option (List ℕ)
 onto fs None = None
 onto fs (Some bs) = Some (fs ++ bs)
 
+pub onto_nil : (bs : Option (List ℕ)) → onto [] bs ≡ bs
+onto_nil None = refl
+onto_nil (Some bs) = refl
+
 pub onto_paired : (fs : List ℕ) (h l : ℕ) (rest : Option (List ℕ)) → onto fs (paired (Some h) (Some l) rest) ≡ onto (fs ++ ((16 * h + l) ∷ [])) rest
 onto_paired fs h l None = refl
 onto_paired fs h l (Some bs) = ap Some (sym (append_assoc fs ((16 * h + l) ∷ []) bs))

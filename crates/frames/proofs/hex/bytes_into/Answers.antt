@@ -1,7 +1,7 @@
 use Rattle.std.proofs.Common.{◌≡◌, ℕ, ◌+◌, ◌*◌, ◌/◌, ◌<◌, ◌≤◌, length, get_or, take, sym, refl, ap, ◌∙◌, arith, rules}
 use Rattle.std.proofs.lemmas.List.{length-set}
 use Rattle.frames.specs.Text.{bytes_of, digit_value, bounded}
-use Rattle.frames.proofs.Digits.{byte_more, no_high, no_low, bytes_all, bounded-none, bytes_of-length}
+use Rattle.frames.proofs.Digits.{byte_more, no_high, no_low, bytes_all, bounded-none, bytes_of-length, onto_nil}
 use Rattle.frames.proofs.hex.bytes_into.Goals as goal
 
 pub returns-then-not-writes_frame : goal.returns-then-not-writes_frame
@@ -28,6 +28,9 @@ returns-in_err-low c =
     let all = c.loop-i.invariant.1 in
     let r = c.from_residual-in_err-low.ensures in
     rw r (record { value = cc (ap bounded (sym all ∙ b)); sized = tt })
+
+pub loop-i-init : goal.loop-i-init
+loop-i-init c = (omega arith, onto_nil (bytes_of c.args.digits.now))
 
 pub loop-i-preserved : goal.loop-i-preserved
 loop-i-preserved c = let w = c.if-not-writes_frame.ensures.yes refl in (

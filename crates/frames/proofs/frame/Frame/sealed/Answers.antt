@@ -6,13 +6,12 @@ use Rattle.frames.proofs.frame.Frame.sealed.Goals as goal
 pub invariant_of-result : goal.invariant_of-result
 invariant_of-result c =
     let cs = c.args.content.now in
-    let e = sealed_array c.copy_from_slice.new.self cs c.sealing_byte-last.result c.copy_from_slice.ensures.after (omega arith) c.sealing_byte-last.ensures in (
-      omega arith,
-      (
-        subst Good (sym e) (sealed-good cs (omega arith) (omega arith)),
-        (subst Bytes (sym e) (sealed-bytes cs (λ k. omega (arith, c.type_inv.content k))), tt),
-      ),
-    )
+    let e = sealed_array c.copy_from_slice.new.self cs c.sealing_byte-last.result c.copy_from_slice.ensures.after (omega arith) c.sealing_byte-last.ensures in
+    record {
+      room = omega arith;
+      good = subst Good (sym e) (sealed-good cs (omega arith) (omega arith));
+      fits = subst Bytes (sym e) (sealed-bytes cs (λ k. omega (arith, c.type_inv.content k)));
+    }
 
 pub returns : goal.returns
 returns c =

@@ -26,7 +26,7 @@ invariant_of-result c =
     let room = c.in-Some.ensures.sized in
     let n : length (take c.in-Some.len c.bytes_into.new.out) ≡ c.in-Some.len = length-take-le c.in-Some.len c.bytes_into.new.out (omega arith) in
     let z = sym c.sum_of-total.ensures ∙ c.if-total-ne0.false in
-    (omega arith, (((omega arith, omega arith), rw k at z), (bounded-bytes c.args.digits.now (take c.in-Some.len c.bytes_into.new.out) c.in-Some.ensures.value, tt)))
+    record { room = omega arith; good = ((omega arith, omega arith), rw k at z); fits = bounded-bytes c.args.digits.now (take c.in-Some.len c.bytes_into.new.out) c.in-Some.ensures.value }
 
 pub returns : goal.returns
 returns c =
