@@ -29,10 +29,10 @@ returns-in_err-frame c =
     let l = left-bad c.loop-at.invariant.1 (omega arith) (record_numbers e) e c.in_err-frame.ensures.answer in
     rw (p.1, p.2) l
 
-pub returns-in-default : goal.returns-in-default
-returns-in-default c =
+pub returns-in_default : goal.returns-in_default
+returns-in_default c =
     let a = c.in_ok-frame.ensures.answer in
-    let g = rw c.in-default.is at a in
+    let g = rw c.in_default.is at a in
     rw c.line-line.ensures (left-gone c.loop-at.invariant.1 (omega arith) g)
 
 pub slice_bounds-copy_from_slice-end : goal.slice_bounds-copy_from_slice-end

@@ -17,10 +17,10 @@ returns-in_err-cell c =
     let l = left-bad c.loop-before.invariant.2 (omega arith) (record_numbers e) e c.in_err-cell.ensures.answer in
     rw (p.1, p.2) (sym l)
 
-pub returns-in-default : goal.returns-in-default
-returns-in-default c =
+pub returns-in_default : goal.returns-in_default
+returns-in_default c =
     let a = c.in_ok-cell.ensures.answer in
-    let g = rw c.in-default.is at a in
+    let g = rw c.in_default.is at a in
     rw c.line-line.ensures (sym (left-gone c.loop-before.invariant.2 (omega arith) g))
 
 pub loop-before-preserved : goal.loop-before-preserved

@@ -35,15 +35,15 @@ returns-in_err-read_node c =
     let l = node-bad c.args.draft.now.arity c.args.count c.loop-i.-i (drafted d) xs line _ c.loop-i-test.true i.0 (record_numbers e) e a in
     rw (p.1, p.2) (record { nodes = l; many = tt; arity = w.arity ∙ i.2 })
 
-pub returns-in-default : goal.returns-in-default
-returns-in-default c =
+pub returns-in_default : goal.returns-in_default
+returns-in_default c =
     let d = c.loop-i.draft in
     let xs = left c.loop-i.reader in
     let line = c.loop-i.reader.line in
     let i = c.loop-i.invariant in
     let w = c.in_ok-read_node.ensures in
     let wa = w.answer in
-    let a : gone ≡ next_node c.loop-i.draft.arity (drafted c.loop-i.draft) (left c.loop-i.reader) c.loop-i.reader.line = rw c.in-default.is at wa in
+    let a : gone ≡ next_node c.loop-i.draft.arity (drafted c.loop-i.draft) (left c.loop-i.reader) c.loop-i.reader.line = rw c.in_default.is at wa in
     let l = node-gone c.args.draft.now.arity c.args.count c.loop-i.-i (drafted d) xs line _ c.loop-i-test.true i.0 (a ∙ ap (λ (n : ℕ). next_node n (drafted d) xs line) i.2) in
     record { nodes = rw c.line-line.ensures l; many = tt; arity = w.arity ∙ i.2 }
 

@@ -11,7 +11,7 @@ use Rattle.nodes.proofs.Making.{State}
 use Rattle.nodes.proofs.Indexes.{at-index}
 use Rattle.nodes.proofs.Rebuilding.{Turn, turn_first, turn_skip, turn_more, full_up, state-first, finish, renamed, did-count, did-length}
 use Rattle.nodes.proofs.reduce.rebuild.Goals as goal
-use Rattle.nodes.proofs.reduce.rebuild.Goals.{then-is-marked+in-ok-number, else-is_marked}
+use Rattle.nodes.proofs.reduce.rebuild.Goals.{then-is_marked+in_ok-number, else-is_marked}
 
 pub loop-i-init : goal.loop-i-init
 loop-i-init c =
@@ -48,7 +48,7 @@ loop-i-preserved c =
     let f = mean raw m 0 c.args.root in
     let P : Store → List ℕ → Type 0 = λ s new. Indexed s.nodes s.heads s.nexts s.count × (s.count ≤ 1024) × State m f s.nodes s.count × Turn m raw marks (c.loop-i.i + 1) s.nodes s.count new × (length s.nodes ≡ 1024) × (length new ≡ 3074) in
     elim c.if-is_marked.branch [
-      | then-is-marked+in-ok-number w ↦
+      | then-is_marked+in_ok-number w ↦
           let e = w.in_ok-number.ensures in
           let s = c.loop-i.store in
           let s' = w.make.new.self in
@@ -80,7 +80,7 @@ invariant_of-result c =
     let there = c.requires.rooted in
     let d = (finish c.args.arity c.args.raw.now c.requires.ordered c.args.root there c.loop-i.store.nodes c.loop-i.store.count (get_or c.loop-i.new c.args.root 0) inv.2
     (inv.3 c.args.root (omega arith) (inr c.requires.marked.top))).diagram in
-    (c.requires.small, (inv.1, (d.rooted, (d.ordered, (d.reduced.0, (d.reduced.1, (d.reached, tt)))))))
+    record { small = c.requires.small; room = inv.1; rooted = d.rooted; ordered = d.ordered; proper = d.reduced.0; single = d.reduced.1; reached = d.reached }
 
 pub returns : goal.returns
 returns c =

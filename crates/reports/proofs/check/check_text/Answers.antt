@@ -58,21 +58,21 @@ stays before after e moved = moved.line ∙ ap (λ (xs : List ℕ). line_after x
 
 pub overflow_sub-lines : goal.overflow_sub-lines
 overflow_sub-lines c =
-    let ended = found_end c.loop-all.reader _ c.in-default.not-Some c.in_ok-line.ensures.found in
+    let ended = found_end c.loop-all.reader _ c.in_default.not-Some c.in_ok-line.ensures.found in
     let same = stays c.loop-all.reader c.next_line.new.reader ended c.in_ok-line.ensures.moved in
     let some = some-line c.loop-all.invariant in
     omega arith
 
 pub overflow_sub-lines-2 : goal.overflow_sub-lines-2
 overflow_sub-lines-2 c =
-    let ended = found_end c.loop-all.reader _ c.in-default.not-Some c.in_ok-line.ensures.found in
+    let ended = found_end c.loop-all.reader _ c.in_default.not-Some c.in_ok-line.ensures.found in
     let same = stays c.loop-all.reader c.next_line.new.reader ended c.in_ok-line.ensures.moved in
     let few = fewer_faulty c.loop-all.invariant in
     omega arith
 
 pub returns : goal.returns
 returns c =
-    let ended = found_end c.loop-all.reader _ c.in-default.not-Some c.in_ok-line.ensures.found in
+    let ended = found_end c.loop-all.reader _ c.in_default.not-Some c.in_ok-line.ensures.found in
     let same = stays c.loop-all.reader c.next_line.new.reader ended c.in_ok-line.ensures.moved in
     so_far_all c.loop-all.invariant ended _ (c.line-lines.result - 1) (c.line-lines.result - 1 - c.loop-all.faulty) (ap (λ (k : ℕ). k - 1) (c.line-lines.ensures ∙ same)) refl
     (c.in_ok-push_str-2.ensures.bytes ∙ ap (λ (t : List ℕ). string_bytes c.loop-all.all ++ t) (c.as_str-2.ensures.value ∙ c.in_ok-total.ensures)) refl

@@ -10,12 +10,26 @@ invariant_of-self c =
     let ok : in_place d.arity (drafted d) c.new-node.result ≡ true = sym c.if-not-admits.ensures in
     let k = kept d.arity d.store c.make.new.self c.new-node.result (sound_of d) ok c.make.result c.make.ensures in
     let x = k.index in
-    (d.small, (k.long, (k.room, (x.head_all, (x.head_of, ((λ n a (two, less, top, e). x.next_all n a two less top e), ((λ n (two, top, pos). x.next_of n two top pos), (k.ordered, (k.proper, (k.single, tt))))))))))
+    record {
+      small = d.small;
+      long = k.long;
+      room = k.room;
+      last = x.head_all;
+      heads = x.head_of;
+      nearest = λ n a (two, less, top, e). x.next_all n a two less top e;
+      links = λ n (two, top, pos). x.next_of n two top pos;
+      ordered = k.ordered;
+      proper = k.proper;
+      single = k.single;
+    }
 
-pub returns-in-default : goal.returns-in-default
-returns-in-default c =
+pub make-requires-clause-indexed : goal.make-requires-clause-indexed
+make-requires-clause-indexed c = (sound_of c.args.self.now).index
+
+pub returns-in_default : goal.returns-in_default
+returns-in_default c =
     let d = c.args.self.now in
-    let e = c.in-default.ensures in
+    let e = c.in_default.ensures in
     let f = full d.arity d.store c.make.new.self c.new-node.result (sound_of d) (sym c.if-not-admits.ensures) e.1 e.2 e.3 in
     let P : Node → Type 0 = λ y. (verdict d.arity (drafted d) y ≡ fits) × (length (drafted d) ≡ 1024) × (stored c.make.new.self ≡ drafted d) in
     record { added = subst P c.new-node.ensures (f.0, f.1, ap stored e.0); arity = refl }

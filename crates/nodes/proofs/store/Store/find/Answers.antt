@@ -6,4 +6,4 @@ pub loop-cur-preserved : goal.loop-cur-preserved
 loop-cur-preserved c =
     let s = c.args.self.now in
     subst (λ (n : ℕ). Walk s.nodes s.count c.args.node n) (sym c.after-cur.ensures)
-    (walk_more s.nodes s.heads s.nexts s.count c.requires.0 c.args.node c.loop-cur.cur c.loop-cur.invariant (omega arith) (λ e. c.if-same.ensures.no e))
+    (walk_more s.nodes s.heads s.nexts s.count c.requires.indexed c.args.node c.loop-cur.cur c.loop-cur.invariant (omega arith) (λ e. c.if-same.ensures.no e))

@@ -14,5 +14,5 @@ returns c =
       nodes = refl;
       index =
           rw c.bucket-b.ensures
-          (index_push c.args.self.now.nodes c.args.self.now.heads c.args.self.now.nexts c.args.self.now.count c.args.node c.requires.0 a b d);
+          (index_push c.args.self.now.nodes c.args.self.now.heads c.args.self.now.nexts c.args.self.now.count c.args.node c.requires.indexed a b d);
     }
