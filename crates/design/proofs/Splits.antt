@@ -20,7 +20,7 @@ use Rattle.families.specs.declared.family.CellFamily as family
 use Rattle.mapping.specs.declared.call.Call.TheVariants.{Split}
 use Rattle.mapping.specs.declared.answer.Answer.{Answer}
 use Rattle.mapping.specs.declared.answer.Answer.TheVariants as answer
-use Rattle.mapping.specs.declared.refusal.Refusal.TheVariants.{TooManyCells, SplitDoesNotFit}
+use Rattle.mapping.specs.declared.refusal.Refusal.TheVariants.{TooShort, TooManyCells, SplitDoesNotFit}
 use Rattle.mapping.specs.Answers.{Ranged}
 use Rattle.mapping.specs.States.{State, state, cell, coded, code_table, split_cells}
 use Rattle.mapping.proofs.Splitting.{some_class, holder-below, coded_from, code_table_from, code_table-negated, split_cells_from}
@@ -37,6 +37,29 @@ ranged_as K L m n b j e h r = record { some = r.some; pinned = let p = r.pinned 
 -- as many cells are seen as were made
 pub count-cells : (w : Netlist) → length (cells_of w) ≡ w.count
 count-cells w = let s : length w.cells ≡ 48 = w.sized in let r = w.room in length-map (take w.count w.cells) seen_cell ∙ length-take-le w.count w.cells (omega arith)
+
+-- the strip is too short
+module _ {C P R F : Type 0} (ch : chart.Ghosts C P) (ru : rule.Ghosts R) (fa : family.Ghosts F) (d : Design C R F P) (b j : ℕ) (before after : List P)
+    (long : length d.live ≡ 16) (still : d.netlist.closed ≡ false) (ranged : Ranged (fa.pins d.family) (ch.arity d.chart.below) b j)
+    (none : (after ≡ before) × (Numberable (ch.arity d.chart.below) b (length before) → ⊥)) where
+  pub split_short : SplitCall ch ru fa d b j before after (answer.Refused TooShort) d
+  split_short =
+      let few : 2 ^ b ≤ length before → ⊥ = λ r. none.1 (record { bound = ranged.bound; room = r }) in
+      let s = ch.laws.small d.chart.below in
+      let Q : ℕ → Type 0 = λ n. Ranged (fa.pins d.family) n b j in
+      let seen-range = subst Q (sym (length-take-le (ch.arity d.chart.below) d.live (omega arith))) ranged in
+      record {
+        step = record {
+          answers = record { says = inr (λ e. true≢false (sym e ∙ still), inr (λ out. out seen-range, inl (omega arith, refl))); leaves = refl };
+          refused = λ _. refl;
+          rule = refl;
+          family = refl;
+          inputs = refl;
+          fitting = λ g. (λ x. x, λ x. x);
+        };
+        untouched = λ _. none.0;
+        places = λ counts. absurd (few counts.long);
+      }
 
 module _ {C P R F : Type 0} (ch : chart.Ghosts C P) (ru : rule.Ghosts R) (fa : family.Ghosts F) (d : Design C R F P) (b j k : ℕ) (before after : List P)
     (long : length d.live ≡ 16) (still : d.netlist.closed ≡ false) (ranged : Ranged (fa.pins d.family) (ch.arity d.chart.below) b j)

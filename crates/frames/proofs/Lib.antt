@@ -7,3 +7,4 @@ pub mod Buffers
 pub mod RoundTrip
 pub mod Forms
 pub mod Telling
+pub mod Lengths

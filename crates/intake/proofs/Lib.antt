@@ -1,5 +1,4 @@
 pub mod Pins
-pub mod Lengths
 pub mod Fields
 pub mod Pages
 pub mod Remaining

@@ -3,7 +3,7 @@ use Rattle.frames.specs.declared.faults.FrameFault.{FrameFault}
 use Rattle.frames.specs.declared.frame.Frame.{Frame}
 use Rattle.frames.specs.Outcome.{Outcome, body, outcome, awaited, reading}
 use Rattle.frames.specs.Reading.{left}
-use Rattle.intake.proofs.Lengths.{due-long}
+use Rattle.frames.proofs.Lengths.{due-long}
 use Rattle.intake.proofs.records.read_due.Goals as goal
 
 -- a frame that was read where one of this length is due

@@ -32,7 +32,7 @@ returns-in_err-read_node c =
     let i = c.loop-i.invariant in
     let w = c.in_err-read_node.ensures in
     let a = w.answer ∙ ap (λ (n : ℕ). next_node n (drafted d) xs line) i.2 in
-    let l = node-bad c.args.draft.now.arity c.args.count c.loop-i.-i (drafted d) xs line _ c.loop-i-test.true i.0 (record_numbers e) e a in
+    let l = node-bad c.args.draft.now.arity c.args.count c.loop-i._i (drafted d) xs line _ c.loop-i-test.true i.0 (record_numbers e) e a in
     rw (p.1, p.2) (record { nodes = l; many = tt; arity = w.arity ∙ i.2 })
 
 pub returns-in_default : goal.returns-in_default
@@ -44,7 +44,7 @@ returns-in_default c =
     let w = c.in_ok-read_node.ensures in
     let wa = w.answer in
     let a : gone ≡ next_node c.loop-i.draft.arity (drafted c.loop-i.draft) (left c.loop-i.reader) c.loop-i.reader.line = rw c.in_default.is at wa in
-    let l = node-gone c.args.draft.now.arity c.args.count c.loop-i.-i (drafted d) xs line _ c.loop-i-test.true i.0 (a ∙ ap (λ (n : ℕ). next_node n (drafted d) xs line) i.2) in
+    let l = node-gone c.args.draft.now.arity c.args.count c.loop-i._i (drafted d) xs line _ c.loop-i-test.true i.0 (a ∙ ap (λ (n : ℕ). next_node n (drafted d) xs line) i.2) in
     record { nodes = rw c.line-line.ensures l; many = tt; arity = w.arity ∙ i.2 }
 
 pub loop-i-preserved : goal.loop-i-preserved
@@ -57,7 +57,7 @@ loop-i-preserved c =
     let w = c.in_ok-read_node.ensures in
     let wa = w.answer in
     let a : got (drafted c.read_node.new.draft) ≡ next_node c.loop-i.draft.arity (drafted c.loop-i.draft) (left c.loop-i.reader) c.loop-i.reader.line = rw c.in-Some.is at wa in
-    let l = node-more c.args.draft.now.arity c.args.count c.loop-i.-i (drafted d) xs line _ c.loop-i-test.true i.0 (drafted t) (left c.read_node.new.reader) c.read_node.new.reader.line (a ∙ ap (λ (n : ℕ). next_node n (drafted d) xs line) i.2) w.moved.rest w.moved.line in
+    let l = node-more c.args.draft.now.arity c.args.count c.loop-i._i (drafted d) xs line _ c.loop-i-test.true i.0 (drafted t) (left c.read_node.new.reader) c.read_node.new.reader.line (a ∙ ap (λ (n : ℕ). next_node n (drafted d) xs line) i.2) w.moved.rest w.moved.line in
     (l.0, omega (arith, l.1, i.1), w.arity ∙ i.2)
 
 pub returns : goal.returns
@@ -65,7 +65,7 @@ returns c =
     let d = c.loop-i.draft in
     let i = c.loop-i.invariant in
     record {
-      nodes = (drafted d, sym i.0 ∙ nodes_all c.args.draft.now.arity c.args.count c.loop-i.-i (drafted d) (left c.loop-i.reader) c.loop-i.reader.line (omega arith), refl);
+      nodes = (drafted d, sym i.0 ∙ nodes_all c.args.draft.now.arity c.args.count c.loop-i._i (drafted d) (left c.loop-i.reader) c.loop-i.reader.line (omega arith), refl);
       many = i.1 ∙ omega arith;
       arity = i.2;
     }

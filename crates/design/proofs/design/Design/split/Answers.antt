@@ -2,8 +2,15 @@ use Rattle.std.proofs.Common.{◌≡◌, ℕ, ◌+◌, ◌-◌, ◌^◌, ◌<◌
 use Rattle.std.specs.List.{range_with_len}
 use Rattle.std.proofs.lemmas.List.{length-take-le, get_or-take}
 use Rattle.mapping.specs.Answers.{Ranged}
-use Rattle.design.proofs.Splits.{ranged_as, classes-inside, split_full, split_unfit, split_done}
+use Rattle.design.proofs.Splits.{ranged_as, classes-inside, split_short, split_full, split_unfit, split_done}
 use Rattle.design.proofs.design.Design.split.Goals as goal
+
+pub returns-in_default : goal.returns-in_default
+returns-in_default g c =
+    let long : length c.args.self.now.live ≡ 16 = omega arith in
+    let ranged : Ranged (g.F.CellFamily.pins c.args.self.now.family) (g.C.Chart.arity c.args.self.now.chart.below) c.args.b c.args.j =
+    ranged_as _ _ _ _ c.args.b c.args.j c.pins.ensures c.count-m.ensures (c.if-not-in_range.ensures.0 refl) in
+    split_short g.C.Chart g.R.CodeRule g.F.CellFamily c.args.self.now c.args.b c.args.j c.args.strip.now c.number_classes.new.strip long c.if-self.false ranged c.in_default.ensures
 
 pub returns-then-made-j-gt-MOST : goal.returns-then-made-j-gt-MOST
 returns-then-made-j-gt-MOST g c =
