@@ -1,5 +1,5 @@
 -- The frames of a page, read one after another.
-use Rattle.std.proofs.Common.{◌≡◌, ℕ, zero, suc, ◌+◌, ◌-◌, ◌*◌, ◌<◌, ◌≤◌, List, [], ◌++◌, sym, refl, ap, ◌∙◌, suc-mul, zero-add, zero-mul, arith}
+use Rattle.std.proofs.Common.{◌≡◌, ℕ, zero, suc, ◌+◌, ◌*◌, ◌<◌, ◌≤◌, List, [], ◌++◌, sym, refl, ap, ◌∙◌, suc-mul, zero-add, zero-mul, arith}
 use Rattle.frames.specs.declared.faults.FaultNumbers.{FaultNumbers}
 use Rattle.frames.specs.declared.faults.PageFault.TheVariants.{Record, Missing}
 use Rattle.frames.specs.declared.faults.RecordFault.{RecordFault}

@@ -1,5 +1,5 @@
 -- What a bit page is: a heading 03 with its number of arguments, and frames 04 that carry its table.
-use Rattle.std.specs.Prelude.{ℕ, zero, suc, ◌+◌, cond, ◌&&◌, List, [], ◌∷◌, ◌++◌, take, drop, nat_le, slice_index}
+use Rattle.std.specs.Prelude.{ℕ, zero, suc, ◌+◌, cond, ◌&&◌, List, [], ◌++◌, take, drop, nat_le, slice_index}
 use Rattle.frames.specs.declared.faults.FaultNumbers.{FaultNumbers}
 use Rattle.frames.specs.declared.faults.PageFault.{PageFault}
 use Rattle.frames.specs.declared.faults.PageFault.TheVariants.{Record, Missing, Surplus}

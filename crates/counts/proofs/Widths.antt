@@ -1,5 +1,5 @@
 -- Class counts by width, and their lines one after another.
-use Rattle.std.proofs.Common.{◌≡◌, ℕ, suc, ◌+◌, ◌^◌, ◌<◌, ◌≤◌, min, List, ◌++◌, length, Some, None, Option, sym, refl, ap, ◌∙◌, append_assoc, add-one, arith, pow_mono}
+use Rattle.std.proofs.Common.{◌≡◌, ℕ, suc, ◌+◌, ◌≤◌, min, List, ◌++◌, length, Some, None, Option, refl, ap, ◌∙◌, append_assoc, arith, pow_mono}
 use Rattle.functions.specs.Functions.{Fn}
 use Rattle.charts.specs.declared.Chart as chart
 use Rattle.charts.specs.Numbering.{Numbers}

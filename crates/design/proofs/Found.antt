@@ -1,5 +1,5 @@
 -- The class of a bound assignment, among the places of the classes.
-use Rattle.std.proofs.Common.{◌≡◌, ℕ, ◌^◌, ◌<◌, true, false, List, map, length, sym, ap, ◌∙◌, arith}
+use Rattle.std.proofs.Common.{◌≡◌, ℕ, ◌^◌, ◌<◌, false, List, map, sym, ap, ◌∙◌, arith}
 use Rattle.std.proofs.lemmas.Bool.{both_ways}
 use Rattle.functions.specs.Functions.{Fn, under}
 use Rattle.functions.specs.Words.{bits}

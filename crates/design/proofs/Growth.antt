@@ -1,11 +1,11 @@
 -- Lists that grow by one, in an array.
-use Rattle.std.proofs.Common.{◌≡◌, ℕ, zero, suc, ◌+◌, ◌-◌, ◌*◌, ◌^◌, ◌<◌, ◌≤◌, Bool, true, false, cond, List, [], ◌∷◌, ◌++◌, map, length, get_or, take, set, replicate, sym, refl, ap, ◌∙◌, arith, pow-add}
+use Rattle.std.proofs.Common.{◌≡◌, ℕ, zero, suc, ◌+◌, ◌-◌, ◌*◌, ◌^◌, ◌<◌, Bool, true, false, cond, List, [], ◌∷◌, ◌++◌, map, length, get_or, take, set, replicate, sym, refl, ap, ◌∙◌, arith, pow-add}
 use Rattle.std.proofs.lemmas.List.{append_assoc, length-append, length_push, map_push, set_at, take_more_set, get_or_append_left, get_or-append_right}
 use Rattle.std.proofs.lemmas.List.FromFn.{length-map-range_with_len, map-range_with_len_more}
 use Rattle.std.specs.List.{range_with_len}
 use Rattle.functions.specs.Words.{number}
 use Rattle.families.specs.Tables.{entry_of}
-use Rattle.intake.specs.Networks.{yielded, last}
+use Rattle.intake.specs.Networks.{last}
 use Rattle.mapping.specs.States as states
 use Rattle.mapping.specs.States.{values, yield, signals}
 use Rattle.mapping.proofs.Signals.{signals-append, length-signals}

@@ -1,16 +1,15 @@
 -- What a design is as it is opened.
-use Rattle.std.proofs.Common.{◌≡◌, ℕ, ◌≤◌, false, List, [], take, sym, refl, ap, ◌∙◌, arith}
+use Rattle.std.proofs.Common.{◌≡◌, ℕ, ◌≤◌, false, List, [], take, sym, refl, ap, ◌∙◌}
 use Rattle.std.specs.List.{range_with_len}
 use Rattle.std.proofs.lemmas.List.FromFn.{take-map-range_with_len}
 use Rattle.std.proofs.lemmas.List.{map-id}
-use Rattle.functions.specs.Functions.{Fn, negated}
+use Rattle.functions.specs.Functions.{negated}
 use Rattle.charts.specs.declared.chart.Chart as chart
 use Rattle.charts.specs.declared.inverting.Inverting.{Inverting}
 use Rattle.charts.specs.Walks.{chart_function}
 use Rattle.rules.specs.declared.rule.CodeRule as rule
 use Rattle.families.specs.declared.family.CellFamily as family
-use Rattle.mapping.specs.States.{state, opened}
-use Rattle.design.specs.declared.design.Design.{Design}
+use Rattle.mapping.specs.States.{state}
 use Rattle.design.specs.declared.netlist.Netlist.{Netlist}
 use Rattle.design.specs.Cells.{cells_of}
 use Rattle.design.specs.Designs.{Opened}

@@ -1,8 +1,8 @@
 -- Every list of calls on a design that was opened keeps its promises.
-use Rattle.std.proofs.Common.{◌≡◌, ℕ, ◌^◌, ◌<◌, ◌≤◌, Bool, true, false, cond, ◌⊎◌, ◌↔◌, List, [], ◌∷◌, ◌++◌, length, take, drop, sym, refl, ap, ◌∙◌, subst, inl, inr, arith}
+use Rattle.std.proofs.Common.{◌≡◌, ℕ, ◌^◌, ◌<◌, Bool, true, ◌↔◌, List, [], length, take, drop, sym, refl, ap, ◌∙◌, subst, inl, inr, arith}
 use Rattle.std.proofs.lemmas.List.{take_at}
 use Rattle.std.proofs.lemmas.Bool.{cases_Bool, true≢false}
-use Rattle.functions.specs.Functions.{Fn, Arity, value}
+use Rattle.functions.specs.Functions.{Arity, value}
 use Rattle.functions.specs.Classes.{columns, classes}
 use Rattle.functions.specs.Decompositions.{Decomposes}
 use Rattle.charts.specs.declared.chart.Chart as chart
@@ -11,9 +11,8 @@ use Rattle.charts.proofs.Meanings.{column_arity}
 use Rattle.rules.specs.declared.rule.CodeRule as rule
 use Rattle.families.specs.declared.family.CellFamily as family
 use Rattle.families.specs.Laws.{meant}
-use Rattle.frames.specs.Text.{over}
 use Rattle.intake.specs.Networks.{WellFormed, input_bits, network_pin}
-use Rattle.intake.specs.Page.{intake, taken}
+use Rattle.intake.specs.Page.{intake}
 use Rattle.intake.proofs.Pages.{intake_laws}
 use Rattle.mapping.specs.declared.call.Call.TheVariants.{Split, Write}
 use Rattle.mapping.specs.declared.answer.Answer.{Answer}
@@ -25,7 +24,7 @@ use Rattle.mapping.specs.Judged.{Judged}
 use Rattle.mapping.specs.Kept.{Reaches, network_of}
 use Rattle.mapping.proofs.Law.{every_run_judged, every_network_keeps}
 use Rattle.design.specs.declared.design.Design.{Design}
-use Rattle.design.specs.Designs.{seen, network_seen, page_of, Counts, SplitCall, PinCall, WriteCall}
+use Rattle.design.specs.Designs.{seen, network_seen, page_of, Counts, SplitCall, WriteCall}
 use Rattle.design.specs.Runs.{Promise}
 use Rattle.design.proofs.Reached.{Stays}
 

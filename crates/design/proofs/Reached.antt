@@ -1,5 +1,5 @@
 -- From the calls of a design to those of its states.
-use Rattle.std.proofs.Common.{◌≡◌, ℕ, min, ◌↔◌, List, [], ◌∷◌, ◌++◌, length, take, sym, refl, ap, ◌∙◌, subst}
+use Rattle.std.proofs.Common.{◌≡◌, ℕ, min, ◌↔◌, List, [], ◌∷◌, ◌++◌, length, sym, ◌∙◌, subst}
 use Rattle.std.proofs.lemmas.List.{length-take}
 use Rattle.functions.specs.Functions.{Fn}
 use Rattle.charts.specs.declared.chart.Chart as chart
@@ -16,7 +16,7 @@ use Rattle.mapping.specs.Kept.{Reaches}
 use Rattle.mapping.proofs.Refits.{refit}
 use Rattle.design.specs.declared.design.Design.{Design}
 use Rattle.design.specs.Designs.{seen, Opened, Step}
-use Rattle.design.specs.Runs.{lent, Setting, setting, Does, Goes, none, more}
+use Rattle.design.specs.Runs.{lent, Setting, Does, Goes, none, more}
 
 module _ {C P R F : Type 0} (ch : chart.Ghosts C P) (ru : rule.Ghosts R) (fa : family.Ghosts F) where
   -- a call with what it is lent is a call of the design

@@ -1,9 +1,9 @@
 -- What a split makes of a design, by each of its ways out.
-use Rattle.std.proofs.Common.{◌≡◌, ℕ, ◌+◌, ◌-◌, ◌/◌, ◌%◌, ◌^◌, ◌<◌, ◌≤◌, true, false, eqb, ◌⊎◌, List, [], ◌∷◌, ◌++◌, map, length, get_or, take, drop, sym, refl, ap, ◌∙◌, subst, inl, inr, ⊎_elim, arith, pow_mono}
+use Rattle.std.proofs.Common.{◌≡◌, ℕ, ◌+◌, ◌-◌, ◌/◌, ◌%◌, ◌^◌, ◌<◌, ◌≤◌, true, false, eqb, List, ◌++◌, map, length, get_or, take, drop, sym, refl, ap, ◌∙◌, subst, inl, inr, ⊎_elim, arith, pow_mono}
 use Rattle.std.specs.List.{range_with_len}
-use Rattle.std.proofs.lemmas.List.{length-map, length-take-le, take-take, get_or-take}
+use Rattle.std.proofs.lemmas.List.{length-map, length-take-le, take-take}
 use Rattle.std.proofs.lemmas.Bool.{true≢false}
-use Rattle.functions.specs.Functions.{Fn, negated, recoded}
+use Rattle.functions.specs.Functions.{Fn, recoded}
 use Rattle.functions.specs.Words.{bits}
 use Rattle.functions.specs.Classes.{columns, classes, class_of}
 use Rattle.functions.proofs.Columns.{length_columns}
@@ -22,12 +22,12 @@ use Rattle.mapping.specs.declared.answer.Answer.{Answer}
 use Rattle.mapping.specs.declared.answer.Answer.TheVariants as answer
 use Rattle.mapping.specs.declared.refusal.Refusal.TheVariants.{TooShort, TooManyCells, SplitDoesNotFit}
 use Rattle.mapping.specs.Answers.{Ranged}
-use Rattle.mapping.specs.States.{State, state, cell, coded, code_table, split_cells}
+use Rattle.mapping.specs.States.{state, coded, code_table, split_cells}
 use Rattle.mapping.proofs.Splitting.{some_class, holder-below, coded_from, code_table_from, code_table-negated, split_cells_from}
 use Rattle.design.specs.declared.design.Design.{Design}
 use Rattle.design.specs.declared.netlist.Netlist.{Netlist}
 use Rattle.design.specs.Cells.{seen_cell, cells_of, number_table, code_cells}
-use Rattle.design.specs.Designs.{inverted, left_of, seen, Step, Counts, SplitCall}
+use Rattle.design.specs.Designs.{inverted, left_of, seen, Step, SplitCall}
 use Rattle.design.proofs.Swaps.{fits_below}
 
 -- the range of a split, by the numbers that were asked

@@ -1,5 +1,5 @@
 -- What a swap of the chart makes of a design.
-use Rattle.std.proofs.Common.{◌≡◌, ℕ, zero, suc, ◌+◌, ◌<◌, ◌≤◌, true, false, ◌↔◌, List, [], ◌∷◌, length, get_or, take, set, sym, refl, ap, ◌∙◌, subst, inl, inr, add-one, arith}
+use Rattle.std.proofs.Common.{◌≡◌, ℕ, zero, suc, ◌+◌, ◌<◌, ◌≤◌, false, ◌↔◌, List, [], ◌∷◌, length, get_or, take, set, sym, refl, ap, ◌∙◌, subst, inr, add-one, arith}
 use Rattle.std.proofs.lemmas.List.{length-take-le}
 use Rattle.std.proofs.lemmas.Bool.{true≢false}
 use Rattle.functions.specs.Functions.{Fn, negated, exchanged}
@@ -15,7 +15,7 @@ use Rattle.mapping.specs.declared.answer.Answer.TheVariants.{Done}
 use Rattle.mapping.specs.States.{state}
 use Rattle.design.specs.declared.design.Design.{Design}
 use Rattle.design.specs.Cells.{cells_of}
-use Rattle.design.specs.Designs.{inverted, left_of, seen, Step}
+use Rattle.design.specs.Designs.{inverted, left_of, Step}
 
 -- two elements written crosswise
 crosswise : (p m : ℕ) (xs : List ℕ) → suc p < m → m ≤ length xs → take m (set (set xs p (get_or xs (suc p) 0)) (suc p) (get_or xs p 0)) ≡ swapped p (take m xs)

@@ -1,10 +1,10 @@
 -- Calls with their answers, one by one.
-use Rattle.std.proofs.Common.{◌≡◌, ℕ, zero, suc, ◌+◌, ◌<◌, ◌≤◌, min, List, [], ◌∷◌, ◌++◌, length, get_or, take, drop, set, sym, refl, ap, ◌∙◌, ⊎_elim, arith}
+use Rattle.std.proofs.Common.{◌≡◌, ℕ, zero, suc, ◌+◌, ◌<◌, min, List, [], ◌∷◌, ◌++◌, length, get_or, take, drop, set, sym, refl, ap, ◌∙◌, ⊎_elim, arith}
 use Rattle.std.proofs.lemmas.List.{length-take-le, take_more, take_more_set, drop_all, drop-drop, drop-set-lt}
 use Rattle.std.proofs.lemmas.Bool.{cases_lt}
 use Rattle.mapping.specs.declared.call.Call.{Call}
 use Rattle.mapping.specs.declared.answer.Answer.{Answer}
-use Rattle.mapping.specs.Histories.{Told, told}
+use Rattle.mapping.specs.Histories.{told}
 use Rattle.design.specs.Runs.{lent, tolds}
 
 -- one more of each

@@ -1,6 +1,6 @@
 -- The bytes of a page.
 use Rattle.std.proofs.Common.{◌≡◌, ℕ, zero, suc, ◌+◌, ◌-◌, ◌<◌, ◌≤◌, min, Bool, true, false, cond, List, [], ◌∷◌, ◌++◌, map, length, get_or, take, drop, set, replicate, Ok, Err, Result, sym, refl, ap, ◌∙◌, inl, inr, arith}
-use Rattle.std.proofs.lemmas.List.{append_assoc, length-append, length-take-le, take_all, take_at, take_more, take_more_set, take-replicate, map_push, map_more}
+use Rattle.std.proofs.lemmas.List.{append_assoc, length-take-le, take_all, take_at, take_more, take_more_set, take-replicate, map_push, map_more}
 use Rattle.std.proofs.lemmas.Bool.{true≢false}
 use Rattle.charts.specs.declared.chart.Chart as chart
 use Rattle.charts.proofs.ClassLists.{take_min}

@@ -1,5 +1,5 @@
 -- The cells of a design as its user sees them.
-use Rattle.std.specs.Prelude.{ℕ, ◌+◌, ◌-◌, ◌/◌, ◌%◌, ◌^◌, Bool, cond, List, map, length, take, nat_eq, nat_lt, slice_index}
+use Rattle.std.specs.Prelude.{ℕ, ◌+◌, ◌-◌, ◌/◌, ◌%◌, ◌^◌, cond, List, map, length, take, nat_eq, nat_lt, slice_index}
 use Rattle.std.specs.List.{range_with_len}
 use Rattle.families.specs.Tables.{tabled}
 use Rattle.mapping.specs.States as states

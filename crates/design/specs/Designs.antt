@@ -1,5 +1,5 @@
 -- Designs as states, and what each call does, for every chart, code rule and cell family.
-use Rattle.std.specs.Prelude.{◌≡◌, ℕ, ◌^◌, ◌<◌, ◌≤◌, Bool, true, false, cond, ◌↔◌, List, map, length, take, Ok, Err, Result}
+use Rattle.std.specs.Prelude.{◌≡◌, ℕ, ◌^◌, ◌≤◌, false, cond, ◌↔◌, List, length, take, Ok, Err, Result}
 use Rattle.functions.specs.Functions.{Fn, negated}
 use Rattle.functions.specs.Classes.{columns, classes}
 use Rattle.charts.specs.declared.chart.Chart as chart
@@ -16,7 +16,7 @@ use Rattle.mapping.specs.declared.call.Call.{Call}
 use Rattle.mapping.specs.declared.call.Call.TheVariants.{Swap, Split, Close, Pin, Write}
 use Rattle.mapping.specs.declared.refusal.Refusal.{Refusal}
 use Rattle.mapping.specs.declared.answer.Answer.{Answer}
-use Rattle.mapping.specs.declared.answer.Answer.TheVariants.{Done, Divided, Shows, Wrote, Refused}
+use Rattle.mapping.specs.declared.answer.Answer.TheVariants.{Done, Divided, Wrote, Refused}
 use Rattle.mapping.specs.Calls.{is_done}
 use Rattle.mapping.specs.States.{State, state, opened}
 use Rattle.mapping.specs.Answers.{Answers, Ranged, page_bytes}

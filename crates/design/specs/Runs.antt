@@ -16,7 +16,7 @@ use Rattle.mapping.specs.declared.refusal.Refusal.TheVariants.{TooManyClasses}
 use Rattle.mapping.specs.States.{pin}
 use Rattle.mapping.specs.Histories.{Told, told, Event, reference}
 use Rattle.design.specs.declared.design.Design.{Design}
-use Rattle.design.specs.Designs.{seen, Opened, network_seen, Step, SwapCall, Counts, SplitCall, CloseCall, PinCall, WriteCall}
+use Rattle.design.specs.Designs.{seen, Opened, network_seen, SwapCall, Counts, SplitCall, CloseCall, PinCall, WriteCall}
 
 -- a call with what it is lent, of a strip of k entries and a buffer of n bytes: as much as it names, or all
 abbrev pub lent : ℕ → ℕ → Call → Call

@@ -1,10 +1,10 @@
 -- Texts written over a buffer.
-use Rattle.std.proofs.Common.{◌≡◌, ℕ, suc, ◌+◌, ◌-◌, ◌*◌, ◌/◌, ◌%◌, ◌<◌, ◌≤◌, Bool, true, false, leb, List, [], ◌∷◌, ◌++◌, map, length, get_or, take, drop, set, sym, refl, ap, ◌∙◌, append_assoc, arith}
-use Rattle.std.proofs.lemmas.List.{take-append-drop, drop_more, take_more, length-append, length_push, length-take-le, set_at, take_at, drop_at, append-nil, at_drop_more, at_drop_all, drop-drop, drop-append-le, drop_all, flat_map_more}
-use Rattle.std.proofs.lemmas.Bool.{le-leb, lt-leb, leb-true, leb-false}
+use Rattle.std.proofs.Common.{◌≡◌, ℕ, suc, ◌+◌, ◌-◌, ◌*◌, ◌/◌, ◌%◌, ◌<◌, ◌≤◌, false, leb, List, [], ◌∷◌, ◌++◌, length, get_or, take, drop, set, sym, refl, ap, ◌∙◌, append_assoc, arith}
+use Rattle.std.proofs.lemmas.List.{take-append-drop, drop_more, take_more, length-append, length_push, length-take-le, set_at, take_at, drop_at, append-nil, at_drop_more, drop-drop, flat_map_more}
+use Rattle.std.proofs.lemmas.Bool.{lt-leb}
 use Rattle.std.proofs.lemmas.Bool.Decides.{nat_tests}
 use Rattle.frames.specs.declared.frame.Frame.{Frame}
-use Rattle.frames.specs.Text.{hex_digit, hex, line_text, text, placed, over}
+use Rattle.frames.specs.Text.{hex_digit, hex, line_text, placed, over}
 use Rattle.frames.specs.Outcome.{body}
 use Rattle.frames.specs.Writing.{text_of}
 

@@ -1,11 +1,10 @@
 -- What the flaw of a line shows.
-use Rattle.std.proofs.Common.{◌≡◌, ℕ, suc, ◌+◌, ◌-◌, ◌*◌, ◌/◌, ◌%◌, ◌<◌, ◌≤◌, Bool, true, false, cond, eqb, ltb, List, [], ◌∷◌, ◌++◌, length, get_or, take, is_some, Some, None, Option, sym, refl, ap, ◌∙◌, one-add, arith}
+use Rattle.std.proofs.Common.{◌≡◌, ℕ, suc, ◌+◌, ◌-◌, ◌*◌, ◌/◌, ◌%◌, ◌<◌, cond, eqb, ltb, List, [], ◌∷◌, length, get_or, take, is_some, Some, None, Option, sym, refl, ap, ◌∙◌, one-add, arith}
 use Rattle.std.proofs.lemmas.List.{length-take-le, get_or-take}
 use Rattle.std.proofs.lemmas.List.Sums.{prefix_len-le-length}
 use Rattle.std.proofs.lemmas.Bool.{cond_both, eqb-true, eqb-false, ltb-true, ltb-false}
-use Rattle.frames.specs.declared.faults.Flaw.{Flaw}
 use Rattle.frames.specs.declared.faults.Flaw.TheVariants.{Character, OddDigits, Length}
-use Rattle.frames.specs.Text.{digit_value, digit_run, paired, bytes_of, bounded, width}
+use Rattle.frames.specs.Text.{digit_value, digit_run, bytes_of, bounded, width}
 use Rattle.frames.specs.Outcome.{flaw_of}
 use Rattle.frames.specs.Laws.{Shows}
 use Rattle.frames.proofs.Digits.{bytes_of-length, bounded-some}

@@ -1,5 +1,5 @@
 -- Lines of a text, and where they end.
-use Rattle.std.proofs.Common.{◌≡◌, ℕ, ◌+◌, ◌-◌, ◌<◌, ◌≤◌, true, false, cond, not, eqb, ltb, List, [], ◌∷◌, ◌++◌, length, get_or, take, drop, sym, refl, ap, ◌∙◌, arith}
+use Rattle.std.proofs.Common.{◌≡◌, ℕ, ◌+◌, ◌-◌, ◌<◌, ◌≤◌, cond, not, eqb, ltb, List, [], ◌∷◌, length, get_or, take, drop, sym, refl, ap, ◌∙◌, arith}
 use Rattle.std.proofs.lemmas.List.{length-drop, drop-drop, drop_all}
 use Rattle.std.proofs.lemmas.List.Sums.{prefix_len-drop_yes, prefix_len-drop_no, prefix_len-drop_all}
 use Rattle.std.proofs.lemmas.Bool.{cond-true, cond-false, ne_eqb, eq-eqb, not_from_false, not_from_true, lt-ltb, le-ltb}
@@ -9,7 +9,7 @@ use Rattle.frames.specs.declared.faults.FrameFault.{FrameFault}
 use Rattle.frames.specs.declared.faults.FrameFault.TheVariants.{Malformed}
 use Rattle.frames.specs.Numbers.{numbers}
 use Rattle.frames.specs.Text.{width}
-use Rattle.frames.specs.Outcome.{Outcome, frame, end, fault, line_outcome, reading, past, line_after}
+use Rattle.frames.specs.Outcome.{frame, end, fault, line_outcome, reading, past, line_after}
 
 pub width_on : (xs : List ℕ) (i : ℕ) → i < length xs → (get_or xs i 0 ≡ 10 → ⊥) → width (drop i xs) ≡ 1 + width (drop (i + 1) xs)
 width_on xs i h ne = prefix_len-drop_yes (λ c. not (eqb c 10)) xs i 0 h (not_from_false (eqb (get_or xs i 0) 10) (ne_eqb (get_or xs i 0) 10 ne))

@@ -1,5 +1,5 @@
 -- Reading what was written, and that nothing else reads so.
-use Rattle.std.proofs.Common.{◌≡◌, ℕ, zero, suc, ◌+◌, ◌-◌, ◌*◌, ◌/◌, ◌%◌, ◌<◌, ◌≤◌, Bool, true, false, cond, not, ◌&&◌, eqb, ltb, leb, List, [], ◌∷◌, ◌++◌, map, length, get_or, take, drop, Some, None, sum, Option, sym, refl, ap, ◌∙◌, append_assoc, one-add, arith}
+use Rattle.std.proofs.Common.{◌≡◌, ℕ, zero, suc, ◌+◌, ◌-◌, ◌*◌, ◌/◌, ◌%◌, ◌<◌, Bool, true, false, not, ◌&&◌, eqb, ltb, leb, List, [], ◌∷◌, ◌++◌, map, length, get_or, take, drop, Some, None, sum, Option, sym, refl, ap, ◌∙◌, append_assoc, one-add, arith}
 use Rattle.std.specs.List.{AllByRecursion as All}
 use Rattle.std.proofs.lemmas.Bool.Decides.{nat_tests}
 use Rattle.std.proofs.lemmas.List.{take_at, drop_at, take-append-drop, drop_more, length-append, length-take-le}
@@ -7,12 +7,11 @@ use Rattle.std.proofs.lemmas.List.Sums.{prefix_len-le-length}
 use Rattle.std.proofs.lemmas.Bool.{cond-true, cond_both, eqb-true, eq-eqb, ltb-true, ltb-false, lt-ltb, and_parts, leb-true, ne_eqb, not_from_false, not-false}
 use Rattle.frames.specs.declared.frame.Frame.{Frame}
 use Rattle.frames.specs.declared.faults.Flaw.TheVariants.{NoEnd}
-use Rattle.frames.specs.declared.faults.FrameFault.{FrameFault}
 use Rattle.frames.specs.declared.faults.FrameFault.TheVariants.{Malformed, WrongSum}
 use Rattle.frames.specs.Numbers.{numbers}
-use Rattle.frames.specs.Text.{Sized, Good, Bytes, hex_digit, digit_value, byte_digits, hex, line_text, text, sealing, paired, bytes_of, bounded, width}
+use Rattle.frames.specs.Text.{Sized, Bytes, hex_digit, digit_value, hex, line_text, text, sealing, paired, bytes_of, bounded, width}
 use Rattle.frames.specs.Outcome.{body, Outcome, frame, end, fault, flaw_of, summed, judged, line_outcome, reading, past, line_after}
-use Rattle.frames.specs.Laws.{Sound, Begins, Tells, none, good, summed as wrong-sum, malformed, ReadingTells, LineReads, Reads, done, more, WrittenReads, ReadIsWritten}
+use Rattle.frames.specs.Laws.{Sound, Begins, Tells, none, good, summed as wrong-sum, malformed, ReadingTells, LineReads, done, more, WrittenReads, ReadIsWritten}
 use Rattle.frames.proofs.Digits.{bounded-some}
 use Rattle.frames.proofs.Lines.{reading-more}
 use Rattle.frames.proofs.Flaws.{flaw_shows}

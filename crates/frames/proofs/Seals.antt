@@ -1,12 +1,12 @@
 -- The byte that makes a frame's sum right.
-use Rattle.std.proofs.Common.{◌≡◌, ℕ, ◌+◌, ◌-◌, ◌*◌, ◌%◌, ◌<◌, ◌≤◌, cond, eqb, ◌⊎◌, List, [], ◌∷◌, ◌++◌, length, get_or, take, drop, set, replicate, Some, sum, Option, sym, refl, ap, ◌∙◌, inl, inr, arith}
+use Rattle.std.proofs.Common.{◌≡◌, ℕ, ◌+◌, ◌-◌, ◌%◌, ◌<◌, ◌≤◌, List, [], ◌∷◌, ◌++◌, length, get_or, take, drop, set, replicate, Some, sum, sym, ap, ◌∙◌, inl, inr, arith}
 use Rattle.std.proofs.lemmas.List.Sums.{sum_by_push, sum_by_more}
 use Rattle.std.proofs.lemmas.Bool.{cases_lt, cond-true, cond-false, ne_eqb, eq-eqb}
 use Rattle.std.proofs.lemmas.List.{take_all, take_more_set, take_at, length-append, length_push, length-drop, length-take, get_or_append_left, get_or_push, get_or_past, get_or-take}
 use Rattle.frames.specs.declared.faults.FrameFault.TheVariants.{WrongSum}
 use Rattle.frames.specs.Numbers.{numbers}
 use Rattle.frames.specs.Text.{Good, Bytes, sealing, sealed, bytes_of, bounded}
-use Rattle.frames.specs.Outcome.{Outcome, frame, fault, judged, summed, line_outcome}
+use Rattle.frames.specs.Outcome.{frame, fault, judged, line_outcome}
 
 -- content and the closing byte, laid into an array
 pub sealed_array : (ys cs : List ℕ) (a : ℕ) → ys ≡ cs → length cs ≤ 23 → a ≡ sealing cs → take (length cs + 1) (set (ys ++ drop (length cs - 0) (replicate {A = ℕ} 24 0)) (length cs) a) ≡ sealed cs

@@ -4,7 +4,7 @@ use Rattle.frames.specs.declared.frame.Frame.{Frame}
 use Rattle.frames.specs.declared.frame.Form.{Form}
 use Rattle.frames.specs.declared.faults.FrameFault.{FrameFault}
 use Rattle.frames.specs.declared.reader.FrameReader.{FrameReader}
-use Rattle.frames.specs.Outcome.{Outcome, outcome, reading, past, line_after, awaited}
+use Rattle.frames.specs.Outcome.{outcome, reading, past, line_after, awaited}
 
 -- what a reader has yet to read
 abbrev pub left : FrameReader → List ℕ

@@ -1,14 +1,13 @@
 -- The fields of a cell's frame, and the cell that holds them.
-use Rattle.std.proofs.Common.{◌≡◌, ℕ, ◌+◌, ◌-◌, ◌≤◌, true, false, List, length, take, drop, sym, ap, ◌∙◌, arith}
+use Rattle.std.proofs.Common.{◌≡◌, ℕ, ◌+◌, true, false, List, length, take, drop, sym, ap, ◌∙◌, arith}
 use Rattle.std.proofs.lemmas.List.{drop-take, length-drop, length-take-le, take-take}
 use Rattle.std.proofs.lemmas.Bool.{cond-true, cond-false}
 use Rattle.frames.specs.declared.faults.RecordFault.TheVariants.{BadPin}
 use Rattle.frames.specs.Numbers.{numbers}
 use Rattle.frames.specs.Outcome.{Outcome, frame}
-use Rattle.frames.specs.Records.{Got, got, bad, recorded}
+use Rattle.frames.specs.Records.{got, bad, recorded}
 use Rattle.intake.specs.declared.cell.Cell.{Cell}
-use Rattle.intake.specs.Networks.{NetCell}
-use Rattle.intake.specs.Page.{pinned, celled, wired}
+use Rattle.intake.specs.Page.{pinned, wired}
 use Rattle.intake.specs.Views.{Holds, cell_of}
 
 -- of the frame f, of which the bytes between its kind and its last are m fields: K pins, and so many configuration bytes

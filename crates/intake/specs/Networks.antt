@@ -1,5 +1,5 @@
 -- Networks of cells of a family, and the bit at a network's pin.
-use Rattle.std.specs.Prelude.{◌≡◌, ℕ, zero, suc, ◌+◌, ◌-◌, ◌/◌, ◌%◌, ◌^◌, ◌<◌, ◌≤◌, Bool, true, false, cond, not, ◌⊎◌, List, [], ◌∷◌, ◌++◌, map, length, replicate, ◌==◌, nat_eq, slice_index_or}
+use Rattle.std.specs.Prelude.{◌≡◌, ℕ, suc, ◌+◌, ◌-◌, ◌/◌, ◌%◌, ◌^◌, ◌<◌, ◌≤◌, Bool, false, cond, not, ◌⊎◌, List, [], ◌∷◌, ◌++◌, map, length, replicate, ◌==◌, nat_eq, slice_index_or}
 use Rattle.std.specs.List.{range_with_len, AllByRecursion as All}
 use Rattle.families.specs.Tables.{assignment}
 use Rattle.frames.specs.Text.{Bytes}

@@ -1,5 +1,5 @@
 -- What a call answers and leaves: the first check that stands against it, in their order, or that it was done.
-use Rattle.std.specs.Prelude.{◌≡◌, ℕ, ◌+◌, ◌*◌, ◌^◌, ◌<◌, ◌≤◌, Bool, true, false, cond, ◌⊎◌, List, [], ◌∷◌, length}
+use Rattle.std.specs.Prelude.{◌≡◌, ℕ, ◌+◌, ◌*◌, ◌^◌, ◌<◌, ◌≤◌, true, false, cond, ◌⊎◌, List, [], ◌∷◌, length}
 use Rattle.functions.specs.Functions.{Fn, negated, exchanged}
 use Rattle.functions.specs.Classes.{columns, classes}
 use Rattle.intake.specs.Networks.{input_bits}

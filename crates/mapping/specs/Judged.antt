@@ -1,5 +1,5 @@
 -- What the history of a design demands of each answer: in terms of the opened function, the rule and the calls so far, and of no design.
-use Rattle.std.specs.Prelude.{◌≡◌, ℕ, zero, suc, ◌+◌, ◌^◌, ◌<◌, ◌≤◌, true, false, List, [], ◌∷◌, ◌++◌, length, take}
+use Rattle.std.specs.Prelude.{◌≡◌, ℕ, suc, ◌+◌, ◌^◌, ◌<◌, ◌≤◌, true, false, List, [], ◌∷◌, ◌++◌, length, take}
 use Rattle.functions.specs.Functions.{Fn, bit, fork, value, exchanged}
 use Rattle.functions.specs.Classes.{columns, classes}
 use Rattle.functions.specs.Decompositions.{Decomposes}

@@ -1,5 +1,5 @@
 -- What every list of calls keeps of the opened function.
-use Rattle.std.specs.Prelude.{◌≡◌, ℕ, ◌^◌, ◌<◌, ◌≤◌, Bool, true, ◌↔◌, List, [], ◌∷◌, ◌++◌, map, length, take, replicate}
+use Rattle.std.specs.Prelude.{◌≡◌, ℕ, ◌^◌, ◌<◌, ◌≤◌, Bool, ◌↔◌, List, [], ◌∷◌, ◌++◌, map, length, take, replicate}
 use Rattle.functions.specs.Functions.{Fn, Arity, value, negated}
 use Rattle.functions.specs.Classes.{columns, classes}
 use Rattle.functions.specs.Decompositions.{Decomposes}
@@ -9,7 +9,7 @@ use Rattle.mapping.specs.declared.call.Call.{Call}
 use Rattle.mapping.specs.declared.answer.Answer.{Answer}
 use Rattle.mapping.specs.States.{Cell, State, pin, opened}
 use Rattle.mapping.specs.Answers.{Answers}
-use Rattle.mapping.specs.Histories.{Told, told, Event, events, reference}
+use Rattle.mapping.specs.Histories.{Told, told, Event, reference}
 
 -- the states that calls with their answers lead to, from the state in which a function f of n arguments was opened
 pub data Reaches (code : ℕ → ℕ → ℕ) (K config : ℕ) (fits : Fn → Type 0) (n : ℕ) (f : Fn) : List Told → State → Type 0 where

@@ -1,5 +1,5 @@
 -- The nodes of a page, read one after another.
-use Rattle.std.proofs.Common.{◌≡◌, ℕ, suc, ◌+◌, ◌-◌, ◌<◌, ◌≤◌, Bool, true, false, cond, ◌&&◌, eqb, ltb, leb, List, [], ◌∷◌, ◌++◌, length, Some, None, Option, sym, refl, ap, ◌∙◌, inl, inr, arith}
+use Rattle.std.proofs.Common.{◌≡◌, ℕ, suc, ◌+◌, ◌-◌, ◌<◌, ◌≤◌, true, cond, ◌&&◌, eqb, ltb, leb, List, [], ◌∷◌, ◌++◌, length, Some, sym, refl, ap, ◌∙◌, inl, inr, arith}
 use Rattle.std.proofs.lemmas.List.{length_push}
 use Rattle.std.proofs.lemmas.Bool.{and_parts, cases_Bool, cond-true, cond-false, eq-eqb, ne_eqb, eqb-true, leb-true, ltb-true, cases_eq}
 use Rattle.frames.specs.declared.faults.FaultNumbers.{FaultNumbers}
@@ -13,7 +13,6 @@ use Rattle.frames.specs.Pages.{Page, page, refused, onward}
 use Rattle.nodes.specs.declared.node.Node.{Node}
 use Rattle.nodes.specs.Drafts.{Verdict, fits, misplaced, repeated, verdict, names, unnamed, top}
 use Rattle.nodepages.specs.declared.records.Heading.{Heading}
-use Rattle.nodepages.specs.declared.records.Triple.{Triple}
 use Rattle.nodepages.specs.Page.{fields, taken, right_root, in_range, heading, joined, node_of, next_node, listed, named, paged}
 
 -- a record whose fields were read

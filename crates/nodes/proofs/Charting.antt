@@ -9,7 +9,7 @@ use Rattle.functions.proofs.Rows.{rows_same}
 use Rattle.charts.specs.Changes.{whole, Became, Recodable}
 use Rattle.nodes.specs.declared.node.Node.{Node}
 use Rattle.nodes.specs.declared.node_chart.NodeChart.{NodeChart}
-use Rattle.nodes.specs.Diagrams.{at, mean, level, Diagram}
+use Rattle.nodes.specs.Diagrams.{mean, level, Diagram}
 use Rattle.nodes.specs.Sizes.{size, Small}
 use Rattle.nodes.specs.Recodes.{Shifts, Leaves, Topped}
 use Rattle.nodes.specs.NodeCharts.{seen, place_column, node_function, Drawn}

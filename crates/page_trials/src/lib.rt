@@ -56,7 +56,7 @@ mod tests {
         assert_eq!(rt; write_table(8, &table, &mut out)?, 81);
         let mut loaded = [true; 4096];
         assert_eq!(rt; load_table(&out, &mut loaded)?, 8);
-        assert!(rt; &loaded[0..256] == &table);
+        assert!(rt; &loaded[0..256] == table.as_slice());
         assert!(rt; !loaded[256]);
         Ok(())
     }

@@ -1,5 +1,5 @@
 -- What the lines of a text read as, and the report on them.
-use Rattle.std.specs.Prelude.{◌≡◌, ℕ, ◌+◌, ◌-◌, Bool, true, false, List, [], ◌∷◌, ◌++◌, length, string_bytes, codes, decimal, count_by, Option, MatchOption, ◌≢◌}
+use Rattle.std.specs.Prelude.{◌≡◌, ℕ, ◌+◌, Bool, true, false, List, [], ◌∷◌, ◌++◌, length, string_bytes, codes, decimal, count_by, Option, MatchOption, ◌≢◌}
 use Rattle.frames.specs.declared.faults.PageFault.TheVariants.{Record}
 use Rattle.frames.specs.declared.faults.RecordFault.TheVariants.{Frame}
 use Rattle.frames.specs.declared.reader.FrameReader.{FrameReader}

@@ -1,5 +1,5 @@
 -- The words for kinds, faults and lines.
-use Rattle.std.specs.Prelude.{ℕ, cond, List, [], ◌∷◌, ◌++◌, length, Some, None, codes, decimal, Option, ◌==◌, slice_index}
+use Rattle.std.specs.Prelude.{ℕ, cond, List, [], ◌++◌, length, Some, None, codes, decimal, Option, ◌==◌, slice_index}
 use Rattle.frames.specs.declared.faults.FaultNumbers.{FaultNumbers}
 use Rattle.frames.specs.declared.faults.Flaw.{Flaw}
 use Rattle.frames.specs.declared.faults.Flaw.TheVariants.{NoEnd, Character, OddDigits, Length}

@@ -1,4 +1,4 @@
-use Rattle.std.proofs.Common.{◌≡◌, ℕ, List, ◌++◌, string_bytes, ap, ◌∙◌, arith}
+use Rattle.std.proofs.Common.{ℕ, List, ◌++◌, string_bytes, ap, ◌∙◌, arith}
 use Rattle.charts.specs.Walks.{chart_function}
 use Rattle.counts.proofs.Widths.{width-more, width-none}
 use Rattle.counts.proofs.counts_text.Goals as goal

@@ -1,4 +1,4 @@
-use Rattle.std.proofs.Common.{◌≡◌, ◌+◌, Some, Ok, Option, sym, ap, ◌∙◌}
+use Rattle.std.proofs.Common.{◌+◌, Ok, Option, sym, ap, ◌∙◌}
 use Rattle.frames.specs.declared.frame.Frame.{Frame}
 use Rattle.frames.specs.Outcome.{outcome, reading, body}
 use Rattle.frames.specs.Reading.{left}

@@ -1,4 +1,4 @@
-use Rattle.std.proofs.Common.{◌≡◌, ◌-◌, ◌/◌, ◌%◌, ◌^◌, eqb, length, get_or, refl, ◌∙◌, arith}
+use Rattle.std.proofs.Common.{◌-◌, ◌/◌, ◌%◌, ◌^◌, eqb, length, get_or, refl, ◌∙◌, arith}
 use Rattle.design.proofs.Rows.{row_table}
 use Rattle.design.proofs.codes.code_table.Goals as goal
 

@@ -1,4 +1,4 @@
-use Rattle.std.proofs.Common.{length, sym, refl, arith}
+use Rattle.std.proofs.Common.{length, sym, refl}
 use Rattle.std.proofs.lemmas.List.{get_or_append_left, get_or-append_right}
 use Rattle.design.proofs.pages.byte_at.Goals as goal
 

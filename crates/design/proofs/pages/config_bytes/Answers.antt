@@ -1,6 +1,5 @@
-use Rattle.std.proofs.Common.{◌≡◌, ℕ, ◌≤◌, min, length, take, replicate, sym, ap, ◌∙◌, arith}
+use Rattle.std.proofs.Common.{◌≡◌, min, length, take, replicate, ap, ◌∙◌, arith}
 use Rattle.std.proofs.lemmas.List.{length-take}
-use Rattle.families.specs.Tables.{Table}
 use Rattle.families.specs.Widening.{widened_table}
 use Rattle.mapping.proofs.Pages.{widened_is_table}
 use Rattle.design.proofs.Written.{packed_front}

@@ -1,4 +1,4 @@
-use Rattle.std.proofs.Common.{◌≡◌, List, length, get_or, take, sym, refl, subst, arith}
+use Rattle.std.proofs.Common.{List, length, get_or, take, sym, refl, subst, arith}
 use Rattle.mapping.specs.declared.call.Call.TheVariants.{Swap}
 use Rattle.mapping.specs.Histories.{Told}
 use Rattle.design.specs.Runs.{tolds, setting, Goes, none}

@@ -1,6 +1,6 @@
-use Rattle.std.proofs.Common.{◌≡◌, ℕ, ◌+◌, ◌*◌, ◌/◌, ◌<◌, ◌≤◌, length, get_or, take, sym, refl, ap, ◌∙◌, arith, rules}
+use Rattle.std.proofs.Common.{◌≡◌, ◌/◌, length, take, sym, refl, ap, ◌∙◌, arith}
 use Rattle.std.proofs.lemmas.List.{length-set}
-use Rattle.frames.specs.Text.{bytes_of, digit_value, bounded}
+use Rattle.frames.specs.Text.{bytes_of, bounded}
 use Rattle.frames.proofs.Digits.{byte_more, no_high, no_low, bytes_all, bounded-none, bytes_of-length, onto_nil}
 use Rattle.frames.proofs.hex.bytes_into.Goals as goal
 

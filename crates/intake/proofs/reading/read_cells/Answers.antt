@@ -1,13 +1,12 @@
-use Rattle.std.proofs.Common.{◌≡◌, ℕ, ◌+◌, List, [], ◌∷◌, ◌++◌, map, sym, ap, ◌∙◌, arith}
+use Rattle.std.proofs.Common.{◌≡◌, [], ◌∷◌, ◌++◌, map, sym, ap, ◌∙◌, arith}
 use Rattle.std.proofs.lemmas.List.{map_push}
 use Rattle.std.proofs.lemmas.Result.{err_from_is_err_and}
 use Rattle.frames.specs.Numbers.{record_numbers}
 use Rattle.frames.specs.Reading.{left}
 use Rattle.frames.specs.Records.{got}
-use Rattle.intake.specs.Networks.{NetCell}
-use Rattle.intake.specs.Page.{cell, cells_from}
+use Rattle.intake.specs.Page.{cell}
 use Rattle.intake.specs.Views.{listed, cell_of}
-use Rattle.intake.proofs.Remaining.{Left, left-got, left-gone, left-bad}
+use Rattle.intake.proofs.Remaining.{left-got, left-gone, left-bad}
 use Rattle.intake.proofs.reading.read_cells.Goals as goal
 
 pub returns-in_err-cell : goal.returns-in_err-cell

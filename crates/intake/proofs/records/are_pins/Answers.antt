@@ -1,6 +1,5 @@
-use Rattle.std.proofs.Common.{◌≡◌, true, sym, refl, ◌∙◌}
+use Rattle.std.proofs.Common.{sym, refl, ◌∙◌}
 use Rattle.std.proofs.lemmas.List.{drop_all}
-use Rattle.intake.specs.Page.{pinned}
 use Rattle.intake.proofs.Pins.{pin_unused, pin-signal, pin_late, pin_strange}
 use Rattle.intake.proofs.records.are_pins.Goals as goal
 use Rattle.intake.proofs.records.are_pins.Goals.{then-pin, else-pin+else-not-used+else-not-is_signal, then-not-used-via-then-not-used, then-not-used-via-else-not-used+then-not-is_signal}

@@ -2,7 +2,7 @@ use Rattle.std.proofs.Common.{◌≡◌, ℕ, List, [], false, is_some, Some, No
 use Rattle.std.proofs.lemmas.Bool.{true≢false}
 use Rattle.frames.specs.declared.frame.Frame.{Frame}
 use Rattle.frames.specs.Outcome.{body}
-use Rattle.frames.specs.Pages.{Page, page, closed, ended}
+use Rattle.frames.specs.Pages.{page, closed, ended}
 use Rattle.frames.specs.Reading.{left}
 use Rattle.frames.specs.Records.{answered, gone, anything}
 use Rattle.frames.proofs.Telling.{anything-gone}

@@ -1,10 +1,9 @@
-use Rattle.std.proofs.Common.{◌≡◌, ℕ, List, [], ◌∷◌, length, Some, Ok, Option, Result, sym, ap, ◌∙◌}
-use Rattle.frames.specs.declared.faults.FrameFault.{FrameFault}
+use Rattle.std.proofs.Common.{◌≡◌, ℕ, List, [], ◌∷◌, length, Some, Ok, Option, sym, ap, ◌∙◌}
 use Rattle.frames.specs.declared.frame.Frame.{Frame}
 use Rattle.frames.specs.declared.frame.Form.{Form}
 use Rattle.frames.specs.declared.kinds.Kind.{Kind}
 use Rattle.frames.specs.Kinds.{kind_byte}
-use Rattle.frames.specs.Outcome.{Outcome, outcome, awaited, reading, body}
+use Rattle.frames.specs.Outcome.{outcome, awaited, reading, body}
 use Rattle.frames.specs.Reading.{left}
 use Rattle.frames.proofs.Forms.{due-told}
 use Rattle.nodepages.proofs.records.read_fields.Goals as goal

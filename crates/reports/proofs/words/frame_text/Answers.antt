@@ -1,4 +1,4 @@
-use Rattle.std.proofs.Common.{◌≡◌, ℕ, List, length, get_or, string_bytes, ap, ◌∙◌}
+use Rattle.std.proofs.Common.{◌≡◌, ℕ, length, get_or, ap, ◌∙◌}
 use Rattle.frames.specs.Kinds.{kind_of}
 use Rattle.frames.specs.Outcome.{body}
 use Rattle.frames.specs.Text.{byte_digits}

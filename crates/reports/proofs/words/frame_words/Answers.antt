@@ -1,4 +1,4 @@
-use Rattle.std.proofs.Common.{ℕ, List, ◌++◌, codes, sym, ap, ◌∙◌}
+use Rattle.std.proofs.Common.{sym, ap}
 use Rattle.reports.specs.Words.{frame_words}
 use Rattle.reports.proofs.Texts.{made_as}
 use Rattle.reports.proofs.words.frame_words.Goals as goal

@@ -1,4 +1,4 @@
-use Rattle.std.proofs.Common.{◌≡◌, ℕ, false, length, get_or, take, sym, ap, ◌∙◌, subst, arith}
+use Rattle.std.proofs.Common.{◌≡◌, ℕ, false, get_or, take, sym, ap, ◌∙◌, subst, arith}
 use Rattle.functions.specs.Functions.{under}
 use Rattle.mapping.specs.States.{values}
 use Rattle.design.specs.Designs.{inverted, left_of}

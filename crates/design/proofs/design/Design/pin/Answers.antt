@@ -1,10 +1,10 @@
-use Rattle.std.proofs.Common.{◌≡◌, ◌-◌, cond, not, sym, refl, ap, ◌∙◌}
+use Rattle.std.proofs.Common.{◌-◌, not, sym, refl, ap, ◌∙◌}
 use Rattle.std.proofs.lemmas.Bool.{cond-false}
 use Rattle.functions.specs.Functions.{value}
 use Rattle.intake.specs.Networks.{input_bits, yielded, last}
 use Rattle.mapping.specs.declared.answer.Answer.TheVariants.{Shows}
 use Rattle.mapping.specs.States.{values, yield, signals, left_value}
-use Rattle.design.specs.Designs.{left_of, seen}
+use Rattle.design.specs.Designs.{seen}
 use Rattle.design.proofs.Growth.{blank-values}
 use Rattle.design.proofs.design.Design.pin.Goals as goal
 

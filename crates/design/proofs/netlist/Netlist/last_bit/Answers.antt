@@ -1,6 +1,6 @@
-use Rattle.std.proofs.Common.{◌≡◌, suc, ◌+◌, ◌-◌, false, ◌++◌, map, length, get_or, take, replicate, sym, refl, ap, ◌∙◌, arith}
+use Rattle.std.proofs.Common.{◌≡◌, suc, ◌+◌, ◌-◌, false, ◌++◌, length, get_or, take, replicate, refl, ap, ◌∙◌, arith}
 use Rattle.std.proofs.lemmas.List.{length-map, length-take-le}
-use Rattle.intake.specs.Networks.{input_bits, yielded, last}
+use Rattle.intake.specs.Networks.{input_bits, yielded}
 use Rattle.mapping.specs.States.{yield}
 use Rattle.design.specs.Cells.{seen_cell, cells_of}
 use Rattle.mapping.proofs.Signals.{length-yielded}

@@ -1,4 +1,4 @@
-use Rattle.std.proofs.Common.{◌≡◌, ℕ, ◌+◌, ◌*◌, ◌^◌, ◌<◌, ◌≤◌, Bool, false, cond, List, [], ◌∷◌, ◌++◌, length, get_or, take, sym, refl, ap, ◌∙◌, arith, pow_mono, rules}
+use Rattle.std.proofs.Common.{◌≡◌, ℕ, ◌*◌, ◌^◌, ◌<◌, ◌≤◌, Bool, false, List, length, get_or, take, ap, ◌∙◌, arith, pow_mono}
 use Rattle.std.proofs.lemmas.List.{length-map, length-take-le, take_more, map_push, take_all}
 use Rattle.functions.specs.Words.{number}
 use Rattle.functions.proofs.Words.{number_below}

@@ -1,4 +1,4 @@
-use Rattle.std.proofs.Common.{◌≡◌, sym, subst, arith}
+use Rattle.std.proofs.Common.{sym, subst, arith}
 use Rattle.frames.specs.Text.{Good, Bytes}
 use Rattle.frames.proofs.Seals.{sealed_array, sealed-good, sealed-bytes}
 use Rattle.frames.proofs.frame.Frame.sealed.Goals as goal

@@ -1,4 +1,4 @@
-use Rattle.std.proofs.Common.{◌≡◌, true, false, List, length, get_or, sym, ap, ◌∙◌, arith}
+use Rattle.std.proofs.Common.{List, get_or, sym, ◌∙◌, arith}
 use Rattle.frames.specs.declared.frame.Form.{Form}
 use Rattle.frames.specs.Outcome.{admits, body, is_due}
 use Rattle.std.proofs.lemmas.List.{at_drop_all}

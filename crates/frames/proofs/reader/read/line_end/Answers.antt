@@ -1,4 +1,4 @@
-use Rattle.std.proofs.Common.{◌≡◌, sym, refl, ap, ◌∙◌, arith, rules}
+use Rattle.std.proofs.Common.{arith}
 use Rattle.frames.proofs.Lines.{width_on, width_stop, width_all}
 use Rattle.frames.proofs.reader.read.line_end.Goals as goal
 

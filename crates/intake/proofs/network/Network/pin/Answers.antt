@@ -1,9 +1,9 @@
-use Rattle.std.proofs.Common.{◌≡◌, ◌+◌, not, List, map, length, get_or, sym, refl, ap, ◌∙◌, arith}
+use Rattle.std.proofs.Common.{◌+◌, not, List, map, sym, refl, ap, ◌∙◌, arith}
 use Rattle.std.proofs.lemmas.List.{get_or-map, length-map, length-set}
 use Rattle.families.specs.Laws.{meant}
 use Rattle.intake.specs.declared.cell.Cell.{Cell}
-use Rattle.intake.specs.Networks.{NetCell, input_bits, last, yielded, cell_bit}
-use Rattle.intake.specs.Views.{listed, cell_of}
+use Rattle.intake.specs.Networks.{input_bits, last, yielded, cell_bit}
+use Rattle.intake.specs.Views.{cell_of}
 use Rattle.intake.proofs.Signals.{yielding_none, yielding_more, yielding_all}
 use Rattle.intake.proofs.network.Network.pin.Goals as goal
 

@@ -1,4 +1,4 @@
-use Rattle.std.proofs.Common.{◌≡◌, ◌<◌, true, [], ◌∷◌, ◌++◌, length, sym, refl, ap, ◌∙◌, subst, arith}
+use Rattle.std.proofs.Common.{◌≡◌, ◌<◌, true, [], ◌∷◌, ◌++◌, length, sym, refl, ap, subst, arith}
 use Rattle.nodes.specs.declared.node.Node.{Node}
 use Rattle.nodes.specs.Drafts.{in_place, drafted, verdict, fits, repeated}
 use Rattle.nodes.proofs.Adding.{stored, sound_of, came, came_again, came_last, kept, full}

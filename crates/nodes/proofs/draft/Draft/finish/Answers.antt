@@ -1,4 +1,4 @@
-use Rattle.std.proofs.Common.{◌≡◌, ℕ, ◌+◌, ◌<◌, sym, refl, ap, ◌∙◌, subst, arith}
+use Rattle.std.proofs.Common.{ℕ, ◌+◌, ◌<◌, sym, refl, ap, ◌∙◌, subst, arith}
 use Rattle.nodes.specs.Diagrams.{mean, Reached}
 use Rattle.nodes.specs.Drafts.{drafted, top}
 use Rattle.nodes.proofs.Grown.{mean-agree}

@@ -1,4 +1,4 @@
-use Rattle.std.proofs.Common.{◌≡◌, ◌+◌, ◌<◌, length, subst, arith}
+use Rattle.std.proofs.Common.{◌+◌, ◌<◌, subst, arith}
 use Rattle.nodes.specs.declared.node.Node.{Node}
 use Rattle.nodes.proofs.Indexes.{at-index}
 use Rattle.nodes.proofs.Marking.{no_marks}
