@@ -1,6 +1,6 @@
 -- What reading means, in terms of the text that writing gives.
 use Rattle.std.specs.Prelude.{◌≡◌, ℕ, ◌-◌, ◌*◌, ◌%◌, ◌<◌, ◌≤◌, List, [], ◌∷◌, ◌++◌, length, take, None, sum, ◌≢◌, slice_index}
-use Rattle.std.specs.List.{AllByRecursion as All}
+use Rattle.std.specs.List.{AllByRecursion}
 use Rattle.frames.specs.declared.faults.Flaw.{Flaw}
 use Rattle.frames.specs.declared.faults.Flaw.TheVariants.{NoEnd, Character, OddDigits, Length}
 use Rattle.frames.specs.declared.faults.FrameFault.TheVariants.{Malformed, WrongSum}
@@ -52,8 +52,8 @@ pub data Reads : List ℕ → ℕ → List (List ℕ) → Type 0 where
 
 -- the text of good frames reads as those frames and then the end
 abbrev pub WrittenReads : Type 0
-WrittenReads = (fs : List (List ℕ)) (line : ℕ) → All Sound fs → Reads (text fs) line fs
+WrittenReads = (fs : List (List ℕ)) (line : ℕ) → AllByRecursion Sound fs → Reads (text fs) line fs
 
 -- a text that reads as frames is exactly the text of those frames, and they are good
 abbrev pub ReadIsWritten : Type 0
-ReadIsWritten = (fs : List (List ℕ)) (line : ℕ) (xs : List ℕ) → Reads xs line fs → (xs ≡ text fs) × All Sound fs
+ReadIsWritten = (fs : List (List ℕ)) (line : ℕ) (xs : List ℕ) → Reads xs line fs → (xs ≡ text fs) × AllByRecursion Sound fs

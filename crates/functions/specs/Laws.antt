@@ -1,6 +1,6 @@
 -- The laws of words, functions, columns and classes.
 use Rattle.std.specs.Prelude.{◌≡◌, ℕ, ◌+◌, ◌-◌, ◌/◌, ◌%◌, ◌^◌, ◌<◌, ◌≤◌, Bool, true, false, not, ◌↔◌, List, ◌++◌, map, length, Decides, ◌==◌, slice_index_or}
-use Rattle.std.specs.List.{ContainsAt as Has, AllByRecursion as All}
+use Rattle.std.specs.List.{ContainsAt, AllByRecursion}
 use Rattle.functions.specs.Words.{number, bits, swapped}
 use Rattle.functions.specs.Functions.{Fn, bit, Arity, value, under, rows, tree, negated, exchanged, recoded}
 use Rattle.functions.specs.Classes.{columns, same_fn, among, place_of, classes, first_of, class_of}
@@ -49,13 +49,13 @@ pub record ArityLaws : Type 0 where
   -- an exchange keeps the arity
   pub arity_exchanged : (p m : ℕ) (f : Fn) → p + 1 < m → Arity m f → Arity m (exchanged p f)
   -- columns of k arguments, chosen by codes of j bits that have a class each
-  pub arity_recoded : (j k : ℕ) (cs : List Fn) (class : ℕ → ℕ) → ((q : ℕ) → q < 2 ^ j → class q < length cs) → All (Arity k) cs → Arity (j + k) (recoded j cs class)
+  pub arity_recoded : (j k : ℕ) (cs : List Fn) (class : ℕ → ℕ) → ((q : ℕ) → q < 2 ^ j → class q < length cs) → AllByRecursion (Arity k) cs → Arity (j + k) (recoded j cs class)
   -- each fixed argument is one less
   pub arity_under : (m : ℕ) (f : Fn) (xs : List Bool) → Arity m f → length xs ≤ m → Arity (m - length xs) (under f xs)
   -- the columns have the arguments that are left
-  pub arity_columns : (m b : ℕ) (f : Fn) → Arity m f → b ≤ m → All (Arity (m - b)) (columns b f)
+  pub arity_columns : (m b : ℕ) (f : Fn) → Arity m f → b ≤ m → AllByRecursion (Arity (m - b)) (columns b f)
   -- and so have the classes
-  pub arity_classes : (m b : ℕ) (f : Fn) → Arity m f → b ≤ m → All (Arity (m - b)) (classes (columns b f))
+  pub arity_classes : (m b : ℕ) (f : Fn) → Arity m f → b ≤ m → AllByRecursion (Arity (m - b)) (classes (columns b f))
 
 -- what negation changes and what it keeps
 pub record NegationLaws : Type 0 where
@@ -89,7 +89,7 @@ pub record ColumnLaws : Type 0 where
 -- the classes of a list of functions
 pub record ClassLaws : Type 0 where
   -- the test tells whether f is one of the functions
-  pub decides_among : (f : Fn) (fs : List Fn) → Decides (among f fs) (Has fs f)
+  pub decides_among : (f : Fn) (fs : List Fn) → Decides (among f fs) (ContainsAt fs f)
   -- the place of one of the functions is one of theirs
   pub place_below : (f : Fn) (fs : List Fn) → among f fs ≡ true → place_of f fs < length fs
   -- it holds the function
@@ -97,7 +97,7 @@ pub record ClassLaws : Type 0 where
   -- and no place before it does
   pub place_first : (fs : List Fn) (i : ℕ) (d : Fn) → i < length fs → place_of (slice_index_or fs i d) fs ≤ i
   -- each function is one of the classes, and each class is one of the functions
-  pub has_classes : (fs : List Fn) (f : Fn) → Has (classes fs) f ↔ Has fs f
+  pub has_classes : (fs : List Fn) (f : Fn) → ContainsAt (classes fs) f ↔ ContainsAt fs f
   -- classes with different numbers differ
   pub classes_differ : (fs : List Fn) (c e : ℕ) (d : Fn) → c < length (classes fs) → e < length (classes fs) → slice_index_or (classes fs) c d ≡ slice_index_or (classes fs) e d → c ≡ e
   -- the class with the larger number first appears later

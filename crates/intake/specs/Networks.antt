@@ -1,6 +1,6 @@
 -- Networks of cells of a family, and the bit at a network's pin.
 use Rattle.std.specs.Prelude.{◌≡◌, ℕ, suc, ◌+◌, ◌-◌, ◌/◌, ◌%◌, ◌^◌, ◌<◌, ◌≤◌, Bool, false, cond, not, ◌⊎◌, List, [], ◌∷◌, ◌++◌, map, length, replicate, ◌==◌, nat_eq, slice_index_or}
-use Rattle.std.specs.List.{range_with_len, AllByRecursion as All}
+use Rattle.std.specs.List.{range_with_len, AllByRecursion}
 use Rattle.families.specs.Tables.{assignment}
 use Rattle.frames.specs.Text.{Bytes}
 
@@ -51,7 +51,7 @@ Signal n k p = (p < n) ⊎ ((16 ≤ p) × (p < 16 + k))
 pub record Pinned (n K k : ℕ) (ps : List ℕ) : Type 0 where
   pub used : List ℕ
   pub few : length used ≤ K
-  pub signals : All (Signal n k) used
+  pub signals : AllByRecursion (Signal n k) used
   pub padded : ps ≡ used ++ replicate (K - length used) 255
 
 -- cells of K pins and so many configuration bytes, the first after k others
