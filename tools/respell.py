@@ -32,6 +32,8 @@ def main():
         table = dict(line.split() for line in f if line.strip())
     for kind in ("rt", "antt", "edit"):
         for path in sorted(glob.glob(f"crates/**/*.{kind}", recursive=True)):
+            if "/out/" in path:
+                continue
             with open(path, encoding="utf-8") as f:
                 old = f.read()
             new = turned(old, table) if kind == "antt" else outside_strings(old, table)

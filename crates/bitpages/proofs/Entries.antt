@@ -7,7 +7,7 @@ use Rattle.std.proofs.lemmas.Bool.{cases_lt}
 use Rattle.std.proofs.lemmas.Bool.Decides.{nat_tests}
 use Rattle.frames.specs.Text.{Bytes}
 use Rattle.functions.specs.Words.{number, bits}
-use Rattle.functions.proofs.Words.{bits_number, get_d_bits, number_bits, number_below}
+use Rattle.functions.proofs.Words.{bits_number, get_or_bits, number_bits, number_below}
 use Rattle.bitpages.specs.Table.{Table, size, bit_at, entry_at, entries, spare, parts, byte_of, table_bytes}
 use Rattle.bitpages.proofs.Sizes.{size_low, size_room, size_full, size_small}
 use Rattle.bitpages.proofs.Parts.{length-parts, get_or-parts}
@@ -32,7 +32,7 @@ bit_at-byte_of es r = elim (cases_lt r (length es)) [
       let e : length es - 1 - t ≡ r = omega arith in
       let b : bits (length es) (byte_of es) ≡ reverse es = ap (λ (k : ℕ). bits k (byte_of es)) (sym (length-reverse es)) ∙ bits_number (reverse es) in
       ap (bit_at (byte_of es)) (sym e)
-      ∙ sym (get_d_bits (length es) (byte_of es) t (omega arith))
+      ∙ sym (get_or_bits (length es) (byte_of es) t (omega arith))
       ∙ ap (λ (l : List Bool). get_or l t false) b
       ∙ get_or-reverse es t false (omega arith)
       ∙ ap (λ (j : ℕ). get_or es j false) e
@@ -69,7 +69,7 @@ module _ (m : ℕ) (es : List Bool) where
 same_byte : (b c : ℕ) → b < 256 → c < 256 → ((r : ℕ) → r < 8 → bit_at b r ≡ bit_at c r) → b ≡ c
 same_byte b c hb hc f =
     sym (number_bits 8 b hb)
-    ∙ ap number (ext_get_or false (bits 8 b) (bits 8 c) refl (λ t h. get_d_bits 8 b t h ∙ f (8 - 1 - t) (omega arith) ∙ sym (get_d_bits 8 c t h)))
+    ∙ ap number (ext_get_or false (bits 8 b) (bits 8 c) refl (λ t h. get_or_bits 8 b t h ∙ f (8 - 1 - t) (omega arith) ∙ sym (get_or_bits 8 c t h)))
     ∙ number_bits 8 c hc
 
 same_bytes : (ds es : List ℕ) → length ds ≡ length es → Bytes ds → Bytes es → ((i : ℕ) → entry_at ds i ≡ entry_at es i) → ds ≡ es

@@ -1,5 +1,5 @@
 -- What the calls that read and write bit pages do.
-use Rattle.std.specs.Prelude.{◌≡◌, ℕ, ◌^◌, ◌≤◌, Bool, false, List, get_or, take, Ok, Err, Result, slice_index_or}
+use Rattle.std.specs.Prelude.{◌≡◌, ℕ, ◌^◌, ◌≤◌, Bool, false, List, take, Ok, Err, Result, slice_index_or}
 use Rattle.charts.specs.declared.bits.BitChart.{BitChart}
 use Rattle.charts.specs.BitCharts.{bit_function}
 use Rattle.frames.specs.declared.faults.PageFault.{PageFault}
@@ -33,7 +33,7 @@ pub record Holds (n : ℕ) (ds : List ℕ) (table : List Bool) : Type 0 where
   -- the others are false
   pub rest : (i : ℕ) → 2 ^ n ≤ i → slice_index_or table i false ≡ false
   -- the function of the table is the one that the page means
-  pub means : tree n (λ i. get_or table i false) ≡ meant n ds
+  pub means : tree n (λ i. slice_index_or table i false) ≡ meant n ds
 
 -- a call that fills a table from a page, after which the text goes on with `rest` at `line`; or a fault, and the table is as it was
 abbrev pub Filled : Page → List ℕ → ℕ → List Bool → List Bool → Result ℕ PageFault → Type 0

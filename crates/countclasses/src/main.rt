@@ -1,13 +1,13 @@
 //! countclasses: reads a bit page from the standard input, and says how many classes its function has at each width.
 #![tactic(auto)]
 
-use anyhow::anyhow;
 use bitpages::filling::load_chart;
 use charts::BitChart;
 use counts::counts_text;
 use reports::words::fault_text;
 use std::env;
 use std::io::Read;
+use std::process::ExitCode;
 
 const HELP: &str = "usage: countclasses < PAGE
 
@@ -19,8 +19,8 @@ A fault is printed in words, with its line, layer, cause and node.
 Ends with status 0, and with 1 after a fault.
 ";
 
-/// Reads the standard input to its end and prints the class counts of the page that it is.
-fn count_input(rt: &HostRuntime) -> anyhow::Result<()> {
+/// Reads the standard input to its end and prints the class counts of the page that it is, or its fault, with the status 1.
+fn count_input(rt: &HostRuntime) -> anyhow::Result<ExitCode> {
     let heap = rt.alloc();
     let mut bytes = Vec::new(heap);
     rt.stdin().read_to_end(&mut bytes)?;
@@ -28,26 +28,26 @@ fn count_input(rt: &HostRuntime) -> anyhow::Result<()> {
     match load_chart(&bytes, &mut chart) {
         Ok(()) => {
             rt.print(counts_text(heap, &chart)?.as_str())?;
-            Ok(())
+            Ok(ExitCode::SUCCESS)
         }
         Err(fault) => {
             rt.println(fault_text(heap, &fault)?)?;
-            Err(anyhow!("the page has a fault"))
+            Ok(ExitCode::FAILURE)
         }
     }
 }
 
-fn main(rt: HostRuntime) -> anyhow::Result<()> {
+fn main(rt: HostRuntime) -> anyhow::Result<ExitCode> {
     let mut args = env::args(&rt)?.skip(1);
     match args.next() {
         None => count_input(&rt),
         Some(arg) => {
             if arg.as_str() == "--help" {
                 rt.print(HELP)?;
-                return Ok(());
+                return Ok(ExitCode::SUCCESS);
             }
             rt.eprint(HELP)?;
-            Err(anyhow!("unknown argument"))
+            Ok(ExitCode::FAILURE)
         }
     }
 }

@@ -2,7 +2,7 @@
 
 ghost use Rattle.std.specs.Prelude.{◌≡◌, ℕ, ◌+◌, ◌-◌, ◌/◌, ◌%◌, ◌^◌, ◌<◌, ◌≤◌, ◌++◌, map, length, take, ◌==◌, slice_index};
 ghost use Rattle.std.specs.List.{range_with_len};
-ghost use Rattle.functions.specs.Classes.{columns, classes as classesOf, class_of};
+ghost use Rattle.functions.specs.Classes.{columns, classes as classes_of, class_of};
 ghost use Rattle.functions.specs.Words.{bits};
 ghost use Rattle.charts.specs.Walks.{chart_function};
 ghost use Rattle.rules.specs.Codes.{holder};
@@ -18,7 +18,7 @@ use rules::rule::{CodeRule, class_of_code};
 /// The class number of the bound assignment `e`, where the places of the classes stand in front of the strip.
 fn class_at<C: Chart>(chart: &C, b: usize, strip: &[C::Place], classes: usize, e: usize) -> usize
     requires inside { e < 2 ^ b }
-    requires strip { map (C.Chart.column chart.now b) (take classes strip.now) ≡ classesOf (columns b (chart_function C.Chart chart.now)) }
+    requires strip { map (C.Chart.column chart.now b) (take classes strip.now) ≡ classes_of (columns b (chart_function C.Chart chart.now)) }
     ensures { result ≡ class_of b (chart_function C.Chart chart.now) (bits b e) }
 {
     let place = walk(chart, b, e);
@@ -36,7 +36,7 @@ pub(crate) fn class_numbers<C: Chart>(
     classes: usize,
 ) -> [usize; 32]
     requires few { b ≤ 5 }
-    requires strip { map (C.Chart.column chart.now b) (take classes strip.now) ≡ classesOf (columns b (chart_function C.Chart chart.now)) }
+    requires strip { map (C.Chart.column chart.now b) (take classes strip.now) ≡ classes_of (columns b (chart_function C.Chart chart.now)) }
     ensures long { length result ≡ 32 }
     ensures numbers { (e : ℕ) → e < 2 ^ b → slice_index result e ≡ class_of b (chart_function C.Chart chart.now) (bits b e) }
 {

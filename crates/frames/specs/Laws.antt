@@ -6,7 +6,7 @@ use Rattle.frames.specs.declared.faults.Flaw.TheVariants.{NoEnd, Character, OddD
 use Rattle.frames.specs.declared.faults.FrameFault.TheVariants.{Malformed, WrongSum}
 use Rattle.frames.specs.Text.{Sized, Good, Bytes, digit_value, width, line_text, text}
 use Rattle.frames.specs.Numbers.{numbers}
-use Rattle.frames.specs.Outcome.{Outcome, frame, end, fault, summed as bySum, reading, past, line_after}
+use Rattle.frames.specs.Outcome.{Outcome, frame, end, fault, summed as by_sum, reading, past, line_after}
 
 -- a good frame of bytes
 abbrev pub Sound : List ℕ → Type 0
@@ -43,7 +43,7 @@ ReadingTells = (xs : List ℕ) (line : ℕ) → Tells xs line (reading xs line)
 -- a text that begins with the line of 2 to 24 bytes reads as those bytes or their wrong sum, and what follows is left
 abbrev pub LineReads : Type 0
 LineReads =
-    (bs rest : List ℕ) (line : ℕ) → Sized bs → Bytes bs → (reading (line_text bs ++ rest) line ≡ bySum line bs) × (past (line_text bs ++ rest) ≡ rest)
+    (bs rest : List ℕ) (line : ℕ) → Sized bs → Bytes bs → (reading (line_text bs ++ rest) line ≡ by_sum line bs) × (past (line_text bs ++ rest) ≡ rest)
 
 -- a text, read from a line on, gives these frames in order and then its end
 pub data Reads : List ℕ → ℕ → List (List ℕ) → Type 0 where

@@ -50,10 +50,10 @@ bits_number (true ∷ xs) = bits-high (length xs) (number xs) (number_below xs) 
 pub number_same : (xs ys : List Bool) → length xs ≡ length ys → number xs ≡ number ys → xs ≡ ys
 number_same xs ys e h = sym (bits_number xs) ∙ rw (e, h) (bits_number ys)
 
-pub get_d_bits : (k i t : ℕ) → t < k → get_or (bits k i) t false ≡ eqb (i / 2 ^ (k - 1 - t) % 2) 1
-get_d_bits zero i t h = absurd (omega arith)
-get_d_bits (suc k) i zero h = let e : suc k - 1 - 0 ≡ k = omega arith in rw e
-get_d_bits (suc k) i (suc t) h = let e : suc k - 1 - suc t ≡ k - 1 - t = omega arith in rw e (get_d_bits k i t (omega arith))
+pub get_or_bits : (k i t : ℕ) → t < k → get_or (bits k i) t false ≡ eqb (i / 2 ^ (k - 1 - t) % 2) 1
+get_or_bits zero i t h = absurd (omega arith)
+get_or_bits (suc k) i zero h = let e : suc k - 1 - 0 ≡ k = omega arith in rw e
+get_or_bits (suc k) i (suc t) h = let e : suc k - 1 - suc t ≡ k - 1 - t = omega arith in rw e (get_or_bits k i t (omega arith))
 
 pub length_swapped : {A : Type 0} (p : ℕ) (xs : List A) → length (swapped p xs) ≡ length xs
 length_swapped zero [] = refl

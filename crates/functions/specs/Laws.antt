@@ -16,7 +16,7 @@ pub record WordLaws : Type 0 where
   -- and is known by its length and that number
   pub bits_number : (xs : List Bool) → bits (length xs) (number xs) ≡ xs
   -- bit t of a word of k bits has the weight 2 ^ (k - 1 - t)
-  pub get_d_bits : (k i t : ℕ) → t < k → slice_index_or (bits k i) t false ≡ (i / 2 ^ (k - 1 - t) % 2 == 1)
+  pub get_or_bits : (k i t : ℕ) → t < k → slice_index_or (bits k i) t false ≡ (i / 2 ^ (k - 1 - t) % 2 == 1)
   -- the exchange of two neighbours keeps the length
   pub length_swapped : (p : ℕ) (xs : List Bool) → length (swapped p xs) ≡ length xs
   -- and undoes itself

@@ -7,7 +7,7 @@ use Rattle.std.proofs.lemmas.Bool.{cond_both}
 use Rattle.functions.specs.Functions.{Fn, bit, Arity, value, negated, exchanged, recoded}
 use Rattle.functions.specs.Words.{number, bits}
 use Rattle.functions.specs.Classes.{columns, classes, class_of}
-use Rattle.functions.proofs.Words.{length_bits, number_bits, number_below, bits_number, get_d_bits}
+use Rattle.functions.proofs.Words.{length_bits, number_bits, number_below, bits_number, get_or_bits}
 use Rattle.functions.proofs.Values.{value_under}
 use Rattle.functions.proofs.Rows.{value_recoded, arity_recoded, rows_same}
 use Rattle.functions.proofs.Classes.{class_below, get_or_class, arity_classes}
@@ -69,7 +69,7 @@ module _ (code : ℕ → ℕ → ℕ) (b j : ℕ) (f : Fn) where
   -- the entries of all tables at xs are the bits of the code of its class
   pub code_bits : (xs : List Bool) → length xs ≡ b → map (λ t. entry_of (code_table code b j f t) (number xs)) (range_with_len 0 j) ≡ bits j (code j (class_of b f xs))
   code_bits xs e = sym (fill_by_all (λ t. entry_of (code_table code b j f t) (number xs)) (bits j (code j (class_of b f xs))) j false (length_bits j (code j (class_of b f xs)))
-      (λ t l. get_d_bits j (code j (class_of b f xs)) t l ∙ sym (code_table_entry t xs e)))
+      (λ t l. get_or_bits j (code j (class_of b f xs)) t l ∙ sym (code_table_entry t xs e)))
 
 -- ---- a split's state
 

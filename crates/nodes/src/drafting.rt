@@ -1,6 +1,6 @@
 ghost use Rattle.std.specs.Prelude.{◌≡◌, ℕ, ◌+◌, ◌<◌, ◌≤◌, false, [], length, MatchOption, slice_index_or};
 ghost use Rattle.nodes.specs.Diagrams.{node, level};
-ghost use Rattle.nodes.specs.Drafts.{below as isBelow, in_place, names, unnamed, top, drafted, Added, Finished};
+ghost use Rattle.nodes.specs.Drafts.{below as is_below, in_place, names, unnamed, top, drafted, Added, Finished};
 
 use super::draft::Draft;
 use super::node::Node;
@@ -59,7 +59,7 @@ impl Draft {
 
     /// Whether `n` may be a child of a new node with the variable `var`.
     fn below(&self, var: u8, n: u16) -> bool
-        ensures { result ≡ isBelow self.now.arity (drafted self.now) var n }
+        ensures { result ≡ is_below self.now.arity (drafted self.now) var n }
     {
         (n as usize) < self.count() + 2 && (var as usize) < self.level(n)
     }

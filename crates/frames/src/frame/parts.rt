@@ -1,7 +1,7 @@
 //! Making and looking at frames.
 
 ghost use Rattle.std.specs.Prelude.{◌≡◌, ◌≤◌, length, slice_index};
-ghost use Rattle.frames.specs.Outcome.{admits as admitsForm, body, flaw_of, is_due, line_outcome, told};
+ghost use Rattle.frames.specs.Outcome.{admits as admits_form, body, flaw_of, is_due, line_outcome, told};
 ghost use Rattle.frames.specs.Writing.{Sealed};
 
 use super::{Form, Frame};
@@ -85,7 +85,7 @@ pub(crate) fn frame_of(digits: &[u8], line: usize) -> Result<Frame, FrameFault>
 impl Form {
     /// Whether frames of this kind and byte count have this form.
     pub fn admits(&self, kind: u8, len: usize) -> bool
-        ensures { result ≡ admitsForm self.now kind len }
+        ensures { result ≡ admits_form self.now kind len }
     {
         self.kind == kind && self.len == len
     }

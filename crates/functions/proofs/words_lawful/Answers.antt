@@ -1,4 +1,4 @@
-use Rattle.functions.proofs.Words.{length_bits, number_bits, number_below, bits_number, get_d_bits, length_swapped, swapped_twice}
+use Rattle.functions.proofs.Words.{length_bits, number_bits, number_below, bits_number, get_or_bits, length_swapped, swapped_twice}
 use Rattle.functions.proofs.words_lawful.Goals as goal
 
 pub returns : goal.returns
@@ -7,7 +7,7 @@ returns c = record {
   number_bits = number_bits;
   number_below = number_below;
   bits_number = bits_number;
-  get_d_bits = get_d_bits;
+  get_or_bits = get_or_bits;
   length_swapped = length_swapped;
   swapped_twice = swapped_twice;
 }
