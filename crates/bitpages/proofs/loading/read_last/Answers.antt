@@ -1,16 +1,10 @@
-use Rattle.std.proofs.Common.{◌≡◌, false, take, is_some, Some, None, Ok, Option, sym, refl, ◌∙◌, arith}
-use Rattle.std.proofs.lemmas.Bool.{true≢false}
-use Rattle.frames.specs.declared.frame.Frame.{Frame}
-use Rattle.frames.specs.Outcome.{body}
+use Rattle.std.proofs.Common.{◌≡◌, take, sym, ◌∙◌, arith}
 use Rattle.frames.specs.Reading.{left}
-use Rattle.frames.specs.Records.{answered, gone, anything}
+use Rattle.frames.specs.Records.{gone, anything}
+use Rattle.frames.proofs.Telling.{no_frame}
 use Rattle.bitpages.specs.Table.{size}
 use Rattle.bitpages.proofs.Tables.{holds, last}
 use Rattle.bitpages.proofs.loading.read_last.Goals as goal
-
-no_frame : (o : Option Frame) → is_some o ≡ false → gone ≡ answered body (Ok o)
-no_frame None e = refl
-no_frame (Some f) e = absurd (true≢false e)
 
 pub returns : goal.returns
 returns c =

@@ -1,17 +1,10 @@
-use Rattle.std.proofs.Common.{◌≡◌, ℕ, List, [], false, is_some, Some, None, Ok, Option, sym, refl, ap, ◌∙◌, subst}
-use Rattle.std.proofs.lemmas.Bool.{true≢false}
-use Rattle.frames.specs.declared.frame.Frame.{Frame}
-use Rattle.frames.specs.Outcome.{body}
+use Rattle.std.proofs.Common.{◌≡◌, ℕ, List, [], sym, refl, ap, ◌∙◌, subst}
 use Rattle.frames.specs.Pages.{page, closed, ended}
 use Rattle.frames.specs.Reading.{left}
-use Rattle.frames.specs.Records.{answered, gone, anything}
-use Rattle.frames.proofs.Telling.{anything-gone}
+use Rattle.frames.specs.Records.{gone, anything}
+use Rattle.frames.proofs.Telling.{anything-gone, no_frame}
 use Rattle.nodepages.specs.Page.{Listing, alone, paged}
 use Rattle.nodepages.proofs.filling.load_chart.Goals as goal
-
-no_frame : (o : Option Frame) → is_some o ≡ false → gone ≡ answered body (Ok o)
-no_frame None e = refl
-no_frame (Some f) e = absurd (true≢false e)
 
 -- a page that the text ends with
 last : (d : Listing) (xs rest : List ℕ) (line after : ℕ) → paged xs line ≡ page d rest after → gone ≡ anything rest after → alone xs line ≡ page d [] after
