@@ -6,7 +6,7 @@ ghost use Rattle.charts.specs.BitCharts.{AtMost, bit_function, BitFunctionLaws, 
 ghost use Rattle.charts.specs.BitLaws.{bit_laws};
 
 use super::bits::{BitChart, ENTRIES, MOST, Stretch};
-use super::chart::{Chart, recodable};
+use super::chart::{Chart, Recoding};
 use super::refusal::ChartRefusal;
 use functions::power;
 
@@ -202,24 +202,19 @@ impl Chart for BitChart {
         Ok(())
     }
 
-    fn recode(
-        &mut self,
-        b: usize,
-        j: usize,
-        places: &[Stretch],
-        class_of: &[usize],
-    ) -> Result<(), ChartRefusal> {
+    fn recode(&mut self, recoding: &Recoding<Stretch>) -> Result<(), ChartRefusal> {
         let m = self.count;
-        if !recodable(m, b, j, places.len(), class_of) {
+        if !recoding.in_range(m) {
             return Err(ChartRefusal::OutOfRange);
         }
-        let left = m - b;
-        if left + j > MOST {
+        let left = m - recoding.bound;
+        let codes = recoding.codes;
+        if left + codes > MOST {
             return Err(ChartRefusal::DoesNotFit);
         }
-        let table = self.rows(left, j, places, class_of);
+        let table = self.rows(left, codes, recoding.places, recoding.class_of);
         self.table = table;
-        self.count = left + j;
+        self.count = left + codes;
         Ok(())
     }
 }

@@ -13,7 +13,7 @@ mod walks;
 
 pub use bit_chart::bit_functions_lawful;
 pub use bits::{BitChart, Stretch};
-pub use chart::{Chart, recodable};
+pub use chart::{Chart, Recoding};
 pub use class_list::{ClassList, find};
 pub use inverting::Inverting;
 pub use numbering::number_classes;
