@@ -1,19 +1,21 @@
-use Rattle.std.proofs.Common.{◌<◌, false, get_or, refl, arith}
-use Rattle.charts.proofs.Stretches.{table-size, filled_more, whole_is}
+use Rattle.std.proofs.Common.{◌≤◌, length, rules, arith}
+use Rattle.charts.proofs.Stretches.{table_size, loads}
 use Rattle.charts.proofs.bits.BitChart.with_entries.Goals as goal
 
-pub bounds-table-i : goal.bounds-table-i
-bounds-table-i c = omega (arith, c.power.ensures.within (omega arith), table-size c.args.n c.if-n-gt-MOST.false)
+pub slice_bounds-table-end : goal.slice_bounds-table-end
+slice_bounds-table-end c = omega (arith, table_size c.args.n c.if-n-gt-MOST.false, c.power.ensures.within)
 
-pub loop-i-preserved : goal.loop-i-preserved
-loop-i-preserved c =
-    let xs = c.args.entries.now in
-    let h : c.loop-i.i < 4096 = omega (arith, c.power.ensures.within (omega arith), table-size c.args.n c.if-n-gt-MOST.false) in
-    filled_more c.loop-i.i (λ x. get_or xs x false) c.loop-i.table (get_or xs c.loop-i.i false) h refl c.loop-i.invariant
+pub slice_bounds-copy_from_slice-end : goal.slice_bounds-copy_from_slice-end
+slice_bounds-copy_from_slice-end c =
+    let few : length c.args.entries.now ≤ 4096 = omega (arith, table_size c.args.n c.if-n-gt-MOST.false, c.power.ensures.within) in
+    search rules
+
+pub copy_from_slice-requires : goal.copy_from_slice-requires
+copy_from_slice-requires c =
+    let few : length c.args.entries.now ≤ 4096 = omega (arith, table_size c.args.n c.if-n-gt-MOST.false, c.power.ensures.within) in
+    search rules
 
 pub returns : goal.returns
 returns c =
-    let size = c.power.ensures.within (omega arith) in (
-      record { small = c.if-n-gt-MOST.false; whole = omega arith },
-      whole_is c.args.n c.loop-i.table (λ x. get_or c.args.entries.now x false) (λ i l. c.loop-i.invariant.each i (omega arith)),
-    )
+    let size = c.power.ensures.within (omega arith) in
+    (record { small = c.if-n-gt-MOST.false; whole = omega arith }, loads c.args.n c.args.entries.now _ _ c.copy_from_slice.ensures.after (omega arith))
