@@ -6,7 +6,8 @@ use Rattle.frames.specs.declared.faults.PageFault.{PageFault}
 use Rattle.frames.specs.declared.reader.FrameReader.{FrameReader}
 use Rattle.frames.specs.Numbers.{page_numbers}
 use Rattle.frames.specs.Reading.{left}
-use Rattle.frames.specs.Writing.{Wrote, refusal_number}
+use Rattle.frames.specs.Writing.{Wrote}
+use Rattle.buffers.specs.Refusals.{refusal_number}
 use Rattle.functions.specs.Functions.{tree}
 use Rattle.bitpages.specs.declared.writing.TableRefusal.{TableRefusal}
 use Rattle.bitpages.specs.declared.writing.TableRefusal.TheVariants.{NoTable, Unwritten}

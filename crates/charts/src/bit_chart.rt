@@ -9,7 +9,7 @@ ghost use Rattle.charts.specs.BitLaws.{bit_laws};
 use super::bits::{BitChart, ENTRIES, MOST, Stretch};
 use super::chart::{Chart, Recoding};
 use super::refusal::ChartRefusal;
-use functions::power;
+use bits::power;
 
 /// A bit chart means the function of its table's entries, which has as many arguments and fits.
 pub fn bit_functions_lawful()

@@ -5,7 +5,7 @@ ghost use Rattle.charts.specs.Laws.{Laws};
 ghost use Rattle.charts.specs.Changes.{Recodable, Swap, Recode};
 
 use super::refusal::ChartRefusal;
-use functions::power;
+use bits::power;
 
 /// A Boolean function of at most 16 arguments, as places that are stepped through from the root.
 ///
