@@ -1,6 +1,6 @@
 -- What the calls that read and write bit pages do.
 use Rattle.std.specs.Prelude.{◌≡◌, ℕ, ◌^◌, ◌≤◌, Bool, false, List, take, Ok, Err, Result, slice_index_or}
-use Rattle.charts.specs.declared.bits.BitChart.{BitChart}
+use Rattle.charts.specs.declared.BitChart.{BitChart}
 use Rattle.charts.specs.BitCharts.{bit_function}
 use Rattle.frames.specs.declared.faults.PageFault.{PageFault}
 use Rattle.frames.specs.declared.reader.FrameReader.{FrameReader}

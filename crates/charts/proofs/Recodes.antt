@@ -9,7 +9,7 @@ use Rattle.charts.specs.Changes.{Recodable}
 use Rattle.charts.specs.Stretches.{entry_of, stretch_column, all_of, nowhere}
 use Rattle.charts.specs.Tables.{Filled, row_entry}
 use Rattle.charts.specs.BitCharts.{AtMost}
-use Rattle.charts.specs.declared.bits.Stretch.{Stretch}
+use Rattle.charts.specs.declared.bit_chart.Stretch.{Stretch}
 use Rattle.charts.proofs.Stretches.{whole_is}
 
 module _ (m b j : ℕ) (table : List Bool) (places : List Stretch) (class_of : List ℕ) (ok : Recodable m b j (length places) class_of) where

@@ -11,8 +11,8 @@ use Rattle.functions.proofs.Rows.{tree-same, tree-entries, arity_tree}
 use Rattle.functions.proofs.Values.{same-sound, same_self}
 use Rattle.charts.specs.Stretches.{there, entry_of, stretch_column, all_of}
 use Rattle.charts.specs.BitCharts.{bit_function, BitFunctionLaws}
-use Rattle.charts.specs.declared.bits.BitChart.{BitChart}
-use Rattle.charts.specs.declared.bits.Stretch.{Stretch}
+use Rattle.charts.specs.declared.bit_chart.BitChart.{BitChart}
+use Rattle.charts.specs.declared.bit_chart.Stretch.{Stretch}
 
 -- a table of at most 12 arguments has at most 4096 entries
 pub table_size : (m : ℕ) → m ≤ 12 → 2 ^ m ≤ 4096

@@ -3,18 +3,31 @@ ghost use Rattle.functions.specs.Functions.{bit};
 ghost use Rattle.charts.specs.Changes.{Recodable};
 ghost use Rattle.charts.specs.Stretches.{there, entry_of, stretch_column, all_of, onward};
 ghost use Rattle.charts.specs.Tables.{Filled, source_of, exchanged_entry, row_entry};
-ghost use Rattle.charts.specs.BitCharts.{AtMost, bit_function, BitFunctionLaws, Loaded};
-ghost use Rattle.charts.specs.BitLaws.{bit_laws};
 
-use super::bits::{BitChart, ENTRIES, MOST, Stretch};
 use super::chart::{Chart, Recoding};
 use super::refusal::ChartRefusal;
 use bits::power;
 
-/// A bit chart means the function of its table's entries, which has as many arguments and fits.
-pub fn bit_functions_lawful()
-    ensures { BitFunctionLaws }
-{}
+/// The most arguments that a bit chart takes.
+const MOST: usize = 12;
+
+/// The entries of its table, 2^`MOST`.
+const ENTRIES: usize = 4096;
+
+/// A stretch of a bit chart's table.
+#[derive(Clone, Copy)]
+pub struct Stretch {
+    start: usize,
+    len: usize,
+}
+
+/// A function of at most 12 arguments by its table, the entry of the assignment number `i` at `i`.
+#[derive(Clone, Copy)]
+pub struct BitChart {
+    table: [bool; ENTRIES],
+    count: usize,
+    ghost small: { count ≤ 12 },
+}
 
 /// Where the entry `i` comes from when the arguments of weight 2`h` and `h` are exchanged.
 fn source(h: usize, i: usize) -> usize
@@ -47,6 +60,8 @@ fn filled<F: Fn(usize) -> bool>(n: usize, entry: F) -> [bool; ENTRIES]
 }
 
 impl BitChart {
+    ghost use Rattle.charts.specs.BitCharts.{bit_function, Loaded};
+
     /// The constant 0 of no arguments.
     pub fn empty() -> BitChart
         ensures { bit_function result ≡ bit false }
@@ -140,6 +155,9 @@ impl BitChart {
 }
 
 impl Chart for BitChart {
+    ghost use Rattle.charts.specs.BitCharts.{AtMost};
+    ghost use Rattle.charts.specs.BitLaws.{bit_laws};
+
     type Place = Stretch;
 
     ghost arity = { λ s. s.count };

@@ -1,6 +1,6 @@
 use Rattle.std.proofs.Common.{arith}
 use Rattle.charts.proofs.Stretches.{table_size}
-use Rattle.charts.proofs.bits.BitChart.size.Goals as goal
+use Rattle.charts.proofs.bit_chart.BitChart.size.Goals as goal
 
 pub returns-clause-few : goal.returns-clause-few
 returns-clause-few c =

@@ -1,6 +1,6 @@
 use Rattle.std.proofs.Common.{◌+◌, ◌-◌, rules, arith}
 use Rattle.charts.proofs.Stretches.{table_size}
-use Rattle.charts.proofs.bits.BitChart.rows.Goals as goal
+use Rattle.charts.proofs.bit_chart.BitChart.rows.Goals as goal
 
 pub filled-requires-clause-room : goal.filled-requires-clause-room
 filled-requires-clause-room c =

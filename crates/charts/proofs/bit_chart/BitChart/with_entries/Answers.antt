@@ -1,6 +1,6 @@
 use Rattle.std.proofs.Common.{◌≤◌, length, rules, arith}
 use Rattle.charts.proofs.Stretches.{table_size, loads}
-use Rattle.charts.proofs.bits.BitChart.with_entries.Goals as goal
+use Rattle.charts.proofs.bit_chart.BitChart.with_entries.Goals as goal
 
 pub slice_bounds-table-end : goal.slice_bounds-table-end
 slice_bounds-table-end c = omega (arith, table_size c.args.n c.if-n-gt-MOST.false, c.power.ensures.within)

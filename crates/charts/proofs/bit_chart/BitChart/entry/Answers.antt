@@ -1,6 +1,6 @@
 use Rattle.std.proofs.Common.{◌-◌, sym, arith}
 use Rattle.charts.proofs.Stretches.{table_size, there-length, there-inside}
-use Rattle.charts.proofs.bits.BitChart.entry.Goals as goal
+use Rattle.charts.proofs.bit_chart.BitChart.entry.Goals as goal
 
 pub bounds-self-place : goal.bounds-self-place
 bounds-self-place c =

@@ -1,5 +1,5 @@
 use Rattle.std.proofs.Common.{◌≡◌, ◌-◌, rules, arith}
-use Rattle.charts.proofs.bits.BitChart.exchanged.Goals as goal
+use Rattle.charts.proofs.bit_chart.BitChart.exchanged.Goals as goal
 
 pub returns : goal.returns
 returns c =

@@ -1,6 +1,6 @@
 use Rattle.std.proofs.Common.{◌∙◌, arith}
 use Rattle.charts.proofs.Stretches.{part_fits, there_test}
-use Rattle.charts.proofs.bits.BitChart.has.Goals as goal
+use Rattle.charts.proofs.bit_chart.BitChart.has.Goals as goal
 
 pub overflow_sub-result : goal.overflow_sub-result
 overflow_sub-result c = omega (arith, part_fits)

@@ -2,7 +2,7 @@ use Rattle.std.proofs.Common.{◌≡◌, ◌^◌, ap, ◌∙◌, arith, pow_pos}
 use Rattle.charts.specs.Tables.{source_of}
 use Rattle.charts.proofs.Stretches.{table_size}
 use Rattle.charts.proofs.Exchanges.{source_below}
-use Rattle.charts.proofs.bits.BitChart.exchanged_entry.Goals as goal
+use Rattle.charts.proofs.bit_chart.BitChart.exchanged_entry.Goals as goal
 
 pub source-requires : goal.source-requires
 source-requires c =
