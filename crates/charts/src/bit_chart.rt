@@ -118,6 +118,7 @@ impl BitChart {
         self.entry(depth, a, i) == self.entry(depth, b, i)
     }
 
+    #[tactic(auto, using(crate::proofs::Stretches::table_size))]
     /// The entry `i` once the arguments of weight 2^(`k` + 1) and 2^`k` are exchanged.
     fn exchanged_entry(&self, k: usize, i: usize) -> bool
         requires two { k + 2 ≤ self.now.count }
