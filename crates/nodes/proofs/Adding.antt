@@ -9,11 +9,10 @@ use Rattle.nodes.specs.declared.draft.Draft.{Draft}
 use Rattle.nodes.specs.declared.store.Store.{Store}
 use Rattle.nodes.specs.declared.store.Full.{Full}
 use Rattle.nodes.specs.Diagrams.{at, blank, level, Ordered, Proper, Single}
-use Rattle.nodes.specs.Stores.{Indexed, Absent, Did, dropped, there, pushed, Made}
+use Rattle.nodes.specs.Stores.{Absent, Did, dropped, there, pushed}
 use Rattle.nodes.specs.Drafts.{below, in_place, same_node, among, fits, misplaced, repeated, verdict}
 use Rattle.nodes.proofs.Canonical.{same}
 use Rattle.nodes.proofs.Indexes.{at_old, at_new}
-use Rattle.nodes.proofs.Rebuilding.{did-length}
 use Rattle.nodes.proofs.Grown.{Agree, Above, level-agree, ordered_grown, reduced_grown}
 
 -- the test for one node among others
@@ -91,23 +90,12 @@ stored s = take s.count s.nodes
 
 -- what a draft keeps of its store
 pub record Sound (m : ℕ) (s : Store) : Type 0 where
-  pub long : length s.nodes ≡ 1024
-  pub room : s.count ≤ 1024
-  pub index : Indexed s.nodes s.heads s.nexts s.count
   pub ordered : Ordered m s.nodes s.count
   pub proper : Proper s.nodes s.count
   pub single : Single s.nodes s.count
 
 pub sound_of : (d : Draft) → Sound d.arity d.store
-sound_of d =
-    record {
-      long = d.long;
-      room = d.room;
-      index = record { head_all = d.last; head_of = d.heads; next_all = λ n a two less top e. d.nearest n a (two, less, top, e); next_of = λ n two top pos. d.links n (two, top, pos) };
-      ordered = d.ordered;
-      proper = d.proper;
-      single = d.single;
-    }
+sound_of d = record { ordered = d.ordered; proper = d.proper; single = d.single }
 
 -- what came of a node in its place: it repeats, and nothing changed, or it is the last of the nodes
 pub data Came (m : ℕ) (s t : Store) (y : Node) (n : ℕ) : Type 0 where
@@ -116,7 +104,7 @@ pub data Came (m : ℕ) (s t : Store) (y : Node) (n : ℕ) : Type 0 where
 
 module _ (m : ℕ) (s t : Store) (y : Node) (o : Sound m s) (ok : in_place m (stored s) y ≡ true) where
   within : s.count ≤ length s.nodes
-  within = omega (arith, o.long, o.room)
+  within = omega arith
 
   pub came : (n : ℕ) → Did s t y n → Came m s t y n
   came n (dropped e q r) =
@@ -126,10 +114,10 @@ module _ (m : ℕ) (s t : Store) (y : Node) (o : Sound m s) (ok : in_place m (st
   came n (pushed room count nodes apart absent r) =
       let more : stored t ≡ take (s.count + 1) t.nodes = ap (λ (k : ℕ). take k t.nodes) count in
       last r (verdict-fits m (stored s) y ok apart (absent_among s.nodes s.count within y absent)) (omega (arith, length_draft s.nodes s.count within))
-      (more ∙ ap (λ (xs : List Node). take (s.count + 1) xs) nodes ∙ take_more_set s.nodes s.count y (omega (arith, o.long)))
+      (more ∙ ap (λ (xs : List Node). take (s.count + 1) xs) nodes ∙ take_more_set s.nodes s.count y (omega arith))
 
-  kept-did : (n : ℕ) → Made s t y n → Sound m t
-  kept-did n mk = go mk.did
+  kept-did : (n : ℕ) → Did s t y n → Sound m t
+  kept-did n = go
     where
       same_store : t ≡ s → Sound m t
       same_store e = let P : Store → Type 0 = λ z. Sound m z in subst P (sym e) o
@@ -139,15 +127,15 @@ module _ (m : ℕ) (s t : Store) (y : Node) (o : Sound m s) (ok : in_place m (st
       go (there e apart two less is) = same_store e
       go (pushed room count nodes apart absent r) =
           let g : Agree s.nodes t.nodes s.count = λ i two less. ap (λ (z : List Node). at z i) nodes ∙ at_old s.nodes s.count y i two less in
-          let new : at t.nodes (s.count + 2) ≡ y = ap (λ (z : List Node). at z (s.count + 2)) nodes ∙ at_new s.nodes s.count y (s.count + 2) (omega (arith, o.long)) refl in
+          let new : at t.nodes (s.count + 2) ≡ y = ap (λ (z : List Node). at z (s.count + 2)) nodes ∙ at_new s.nodes s.count y (s.count + 2) (omega arith) refl in
           let od = ordered_grown m s.count s.nodes t.nodes y o.ordered g new (above_draft s.nodes s.count within m y ok) in
           let rd = reduced_grown s.count s.nodes t.nodes y (o.proper, o.single) g new apart absent in
           let P : ℕ → Type 0 = λ k. Ordered m t.nodes k × Proper t.nodes k × Single t.nodes k in
           let p : P t.count = subst P (sym count) (od, rd.0, rd.1) in
-          record { long = did-length s t y n mk.did o.long; room = omega arith; index = mk.index; ordered = p.0; proper = p.1; single = p.2 }
+          record { ordered = p.0; proper = p.1; single = p.2 }
 
   -- what a draft keeps of its store stays
-  pub kept : (r : Result ℕ Full) → MatchResult r (λ n. Made s t y n) (λ _. (t ≡ s) × (s.count ≡ 1024) × (y.low ≡ y.high → ⊥) × Absent s.nodes s.count y) → Sound m t
+  pub kept : (r : Result ℕ Full) → MatchResult r (λ n. Did s t y n) (λ _. (t ≡ s) × (s.count ≡ 1024) × (y.low ≡ y.high → ⊥) × Absent s.nodes s.count y) → Sound m t
   kept (Ok n) h = kept-did n h
   kept (Err f) h = let P : Store → Type 0 = λ z. Sound m z in subst P (sym h.0) o
 

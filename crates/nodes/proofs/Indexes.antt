@@ -4,7 +4,7 @@ use Rattle.std.proofs.lemmas.Bool.{cases_lt, cases_eq}
 use Rattle.std.proofs.lemmas.List.{get_or-set_same, get_or-set_other, get_or-replicate, get_or_past, length-replicate}
 use Rattle.nodes.specs.declared.node.Node.{Node}
 use Rattle.nodes.specs.Diagrams.{at, blank}
-use Rattle.nodes.specs.Stores.{hash, link, Indexed}
+use Rattle.nodes.specs.Buckets.{hash, link, Indexed}
 
 -- the node at the index i
 pub at-index : (xs : List Node) (i : ℕ) → at xs (i + 2) ≡ get_or xs i blank

@@ -1,13 +1,13 @@
 -- The marked nodes made anew, one after the other, are the diagram of what the root means.
 use Rattle.std.proofs.Common.{◌≡◌, ℕ, zero, suc, ◌+◌, ◌-◌, ◌<◌, ◌≤◌, Bool, ◌⊎◌, List, length, get_or, set, replicate, sym, refl, ap, ◌∙◌, subst, inr, ⊎_elim, arith}
 use Rattle.std.proofs.lemmas.Bool.{cases_lt, cases_eq}
-use Rattle.std.proofs.lemmas.List.{get_or-set_same, get_or-set_other, get_or-replicate, length-replicate, length-set}
+use Rattle.std.proofs.lemmas.List.{get_or-set_same, get_or-set_other, get_or-replicate, length-replicate}
 use Rattle.nodes.specs.declared.node.Node.{Node}
 use Rattle.nodes.specs.declared.store.Store.{Store}
 use Rattle.functions.specs.Functions.{Fn, fork}
 use Rattle.nodes.specs.Diagrams.{at, mean, level, Placed, Ordered, Reach, start, to_low, to_high, Diagram}
 use Rattle.nodes.specs.Sizes.{size}
-use Rattle.nodes.specs.Stores.{Absent, Did, dropped, there, pushed}
+use Rattle.nodes.specs.Stores.{Absent, Did}
 use Rattle.nodes.specs.Marks.{Marked, Marks}
 use Rattle.nodes.proofs.Canonical.{level-end, level-node}
 use Rattle.nodes.proofs.Grown.{Agree, Above, mean-agree, level-agree}
@@ -213,10 +213,10 @@ module _ (m : ℕ) (raw : List Node) (o : Ordered m raw (length raw)) (root : �
         too_many m (mean raw m 0 root) xs c st (renamed (at raw (i + 2)) new) r.k r.km r.above r.inside apart absent len
 
   -- a marked node gets the number that the store answers
-  pub turn_more : (s s' : Store) (r : ℕ) → length s.nodes ≡ 1024 → i + 2 < length new → State m (mean raw m 0 root) s.nodes s.count → Turn m raw marks i s.nodes s.count new → Did s s' (renamed (at raw (i + 2)) new) r → State m (mean raw m 0 root) s'.nodes s'.count × Turn m raw marks (i + 1) s'.nodes s'.count (set new (i + 2) r)
-  turn_more s s' r len room st t did =
+  pub turn_more : (s s' : Store) (r : ℕ) → i + 2 < length new → State m (mean raw m 0 root) s.nodes s.count → Turn m raw marks i s.nodes s.count new → Did s s' (renamed (at raw (i + 2)) new) r → State m (mean raw m 0 root) s'.nodes s'.count × Turn m raw marks (i + 1) s'.nodes s'.count (set new (i + 2) r)
+  turn_more s s' r room st t did =
       let rd = ready s.nodes s.count st t in
-      let d = made m (mean raw m 0 root) s s' (renamed (at raw (i + 2)) new) r len st rd.k rd.km rd.above rd.inside did in
+      let d = made m (mean raw m 0 root) s s' (renamed (at raw (i + 2)) new) r st rd.k rd.km rd.above rd.inside did in
       let a = d.1 in
       let v = level-node m raw (i + 2) (omega arith) in
       let km = rd.km in
@@ -271,15 +271,3 @@ finish m raw o root rc xs c b st s =
       };
       means = e;
     }
-
--- an answer keeps the room
-pub did-count : (s t : Store) (node : Node) (r : ℕ) → Did s t node r → s.count ≤ 1024 → t.count ≤ 1024
-did-count s t node r (dropped e q n) h = let P : Store → Type 0 = λ z. z.count ≤ 1024 in subst P (sym e) h
-did-count s t node r (there e apart two less is) h = let P : Store → Type 0 = λ z. z.count ≤ 1024 in subst P (sym e) h
-did-count s t node r (pushed room count nodes apart absent n) h = omega arith
-
--- and the length
-pub did-length : (s t : Store) (node : Node) (r : ℕ) → Did s t node r → length s.nodes ≡ 1024 → length t.nodes ≡ 1024
-did-length s t node r (dropped e q n) h = let P : Store → Type 0 = λ z. length z.nodes ≡ 1024 in subst P (sym e) h
-did-length s t node r (there e apart two less is) h = let P : Store → Type 0 = λ z. length z.nodes ≡ 1024 in subst P (sym e) h
-did-length s t node r (pushed room count nodes apart absent n) h = ap (λ (z : List Node). length z) nodes ∙ (length-set s.nodes s.count node ∙ h)

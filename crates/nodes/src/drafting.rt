@@ -6,7 +6,7 @@ use super::draft::Draft;
 use super::node::Node;
 use super::node_chart::NodeChart;
 use super::reduce::{SPAN, spread};
-use super::store::empty;
+use super::store::Store;
 
 /// Why a node was not added.
 #[derive(Clone, Copy, PartialEq, Eq, Debug)]
@@ -33,7 +33,7 @@ impl Draft {
         if arity > 16 {
             return None;
         }
-        let store = empty();
+        let store = Store::new();
         Some(Draft { store, arity })
     }
 

@@ -2,7 +2,7 @@ ghost use Rattle.std.specs.Prelude.{◌≡◌};
 ghost use Rattle.nodes.specs.Diagrams.{node};
 
 /// A node of a diagram: its variable, and the numbers of its children where that is 0 and where it is 1.
-#[derive(Clone, Copy)]
+#[derive(Clone, Copy, PartialEq, Eq, Debug)]
 pub(crate) struct Node {
     pub(crate) var: u8,
     pub(crate) low: u16,

@@ -5,7 +5,7 @@ ghost use Rattle.nodes.specs.NodeCharts.{Draws};
 
 use super::node::Node;
 use super::node_chart::NodeChart;
-use super::store::{Full, Store, empty};
+use super::store::{Full, Store};
 
 /// The most numbers of an unreduced diagram: two ends, and three nodes for each of a chart's.
 pub(crate) const SPAN: usize = 3074;
@@ -56,7 +56,7 @@ fn rebuild(raw: &[Node], marks: &[bool; SPAN], arity: usize, root: u16) -> Resul
     requires marked { Marks raw.now root 2 marks.now }
     ensures { Draws arity (mean raw.now arity 0 root) result }
 {
-    let mut store = empty();
+    let mut store = Store::new();
     let mut new = [0u16; SPAN];
     new[1] = 1;
     for i in 0..raw.len() {

@@ -9,22 +9,7 @@ invariant_of-self c =
     let d = c.args.self.now in
     let ok : in_place d.arity (drafted d) c.new-node.result ≡ true = sym c.if-not-admits.ensures in
     let k = kept d.arity d.store c.make.new.self c.new-node.result (sound_of d) ok c.make.result c.make.ensures in
-    let x = k.index in
-    record {
-      small = d.small;
-      long = k.long;
-      room = k.room;
-      last = x.head_all;
-      heads = x.head_of;
-      nearest = λ n a (two, less, top, e). x.next_all n a two less top e;
-      links = λ n (two, top, pos). x.next_of n two top pos;
-      ordered = k.ordered;
-      proper = k.proper;
-      single = k.single;
-    }
-
-pub make-requires-clause-indexed : goal.make-requires-clause-indexed
-make-requires-clause-indexed c = (sound_of c.args.self.now).index
+    record { small = d.small; ordered = k.ordered; proper = k.proper; single = k.single }
 
 pub returns-in_default : goal.returns-in_default
 returns-in_default c =
@@ -39,7 +24,7 @@ returns-then-number-fresh c =
     let d = c.args.self.now in
     let t = c.make.new.self in
     let y = c.new-node.result in
-    let w = came d.arity d.store t y (sound_of d) (sym c.if-not-admits.ensures) c.in-Ok.number c.in-Ok.ensures.did in
+    let w = came d.arity d.store t y (sound_of d) (sym c.if-not-admits.ensures) c.in-Ok.number c.in-Ok.ensures in
     let P : Node → Type 0 = λ y. (verdict d.arity (drafted d) y ≡ repeated) × (stored t ≡ drafted d) in
     record { added = subst P c.new-node.ensures (came_again d.arity d.store t y c.in-Ok.number w (omega arith)); arity = refl }
 
@@ -48,6 +33,6 @@ returns c =
     let d = c.args.self.now in
     let t = c.make.new.self in
     let y = c.new-node.result in
-    let w = came d.arity d.store t y (sound_of d) (sym c.if-not-admits.ensures) c.in-Ok.number c.in-Ok.ensures.did in
+    let w = came d.arity d.store t y (sound_of d) (sym c.if-not-admits.ensures) c.in-Ok.number c.in-Ok.ensures in
     let P : Node → Type 0 = λ y. (verdict d.arity (drafted d) y ≡ fits) × (length (drafted d) < 1024) × (stored t ≡ drafted d ++ (y ∷ [])) in
     record { added = subst P c.new-node.ensures (came_last d.arity d.store t y c.in-Ok.number w (omega arith)); arity = refl }

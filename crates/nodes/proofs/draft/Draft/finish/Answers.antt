@@ -13,7 +13,7 @@ invariant_of-result c =
     let n = d.store.count in
     let P : ℕ → Type 0 = λ r. (r < n + 2) × Reached xs n r in
     let p : P c.top-root.result = subst P (sym c.top-root.ensures) (top-there xs n (omega arith) c.args.one, reached-top xs n (omega arith) c.args.one (sym c.in_default.ensures)) in
-    record { small = d.small; room = d.room; rooted = p.0; ordered = d.ordered; proper = d.proper; single = d.single; reached = p.1 }
+    record { small = d.small; room = d.store.room; rooted = p.0; ordered = d.ordered; proper = d.proper; single = d.single; reached = p.1 }
 
 pub returns : goal.returns
 returns c =
