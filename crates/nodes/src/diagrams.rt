@@ -1,4 +1,5 @@
 ghost use Rattle.std.specs.Prelude.{◌≡◌, false};
+ghost use Rattle.charts.specs.declared.refusal.ChartRefusal.TheVariants.{DoesNotFit};
 ghost use Rattle.functions.specs.Functions.{bit};
 ghost use Rattle.nodes.specs.Sizes.{size, Small};
 ghost use Rattle.nodes.specs.Laws.{DiagramLaws, NodeChartLaws};
@@ -10,6 +11,7 @@ use super::node::Node;
 use super::node_chart::{NodeChart, ROOM};
 use super::places::{child_of, is_one};
 use super::recode::redrawn;
+use super::store::Full;
 use charts::{Chart, ChartRefusal, recodable};
 
 impl NodeChart {
@@ -30,6 +32,14 @@ impl NodeChart {
         ensures { result ≡ size (node_function self.now) }
     {
         self.count
+    }
+}
+
+impl From<Full> for ChartRefusal {
+    ghost from_gives = { λ _ e. e ≡ DoesNotFit };
+
+    fn from(_full: Full) -> ChartRefusal {
+        ChartRefusal::DoesNotFit
     }
 }
 
@@ -85,10 +95,7 @@ impl Chart for NodeChart {
         if m < 2 || p > m - 2 {
             return Err(ChartRefusal::OutOfRange);
         }
-        let Ok(chart) = exchange(self, p as u8) else {
-            return Err(ChartRefusal::DoesNotFit);
-        };
-        *self = chart;
+        *self = exchange(self, p as u8)?;
         Ok(())
     }
 
@@ -102,10 +109,7 @@ impl Chart for NodeChart {
         if !recodable(self.arity, b, j, places.len(), class_of) {
             return Err(ChartRefusal::OutOfRange);
         }
-        let Ok(chart) = redrawn(self, b, j, places, class_of) else {
-            return Err(ChartRefusal::DoesNotFit);
-        };
-        *self = chart;
+        *self = redrawn(self, b, j, places, class_of)?;
         Ok(())
     }
 }

@@ -1,4 +1,5 @@
 ghost use Rattle.std.specs.Prelude.{◌≡◌, ℕ, ◌+◌, ◌<◌, ◌≤◌, false, [], length, MatchOption, slice_index_or};
+ghost use Rattle.nodes.specs.declared.drafting.NodeFlaw.TheVariants.{NoRoom};
 ghost use Rattle.nodes.specs.Diagrams.{node, level};
 ghost use Rattle.nodes.specs.Drafts.{below as is_below, in_place, names, unnamed, top, drafted, Added, Finished};
 
@@ -6,7 +7,7 @@ use super::draft::Draft;
 use super::node::Node;
 use super::node_chart::NodeChart;
 use super::reduce::{SPAN, spread};
-use super::store::Store;
+use super::store::{Full, Store};
 
 /// Why a node was not added.
 #[derive(Clone, Copy, PartialEq, Eq, Debug)]
@@ -17,6 +18,14 @@ pub enum NodeFlaw {
     Repeated,
     /// There are 1,024 nodes.
     NoRoom,
+}
+
+impl From<Full> for NodeFlaw {
+    ghost from_gives = { λ _ e. e ≡ NoRoom };
+
+    fn from(_full: Full) -> NodeFlaw {
+        NodeFlaw::NoRoom
+    }
 }
 
 /// A node, not the last, that no later one names.
@@ -82,10 +91,8 @@ impl Draft {
             return Err(NodeFlaw::Misplaced);
         }
         let fresh = self.store.count + 2;
-        let Ok(number) = self.store.make(node) else {
-            return Err(NodeFlaw::NoRoom);
-        };
-        if (number as usize) < fresh {
+        let number = self.store.make(node)?;
+        if usize::from(number) < fresh {
             return Err(NodeFlaw::Repeated);
         }
         Ok(())
