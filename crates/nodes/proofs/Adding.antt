@@ -1,7 +1,7 @@
 -- Drafts: what the tests of one node more tell, and what a draft is after it.
 use Rattle.std.proofs.Common.{◌≡◌, ℕ, ◌+◌, ◌-◌, ◌<◌, ◌≤◌, true, false, ◌||◌, eqb, ltb, List, [], ◌∷◌, ◌++◌, length, get_or, take, Ok, Err, Decides, Result, sym, refl, ap, ◌∙◌, subst, inl, inr, arith, MatchResult}
 use Rattle.std.specs.List.{HoldsAt}
-use Rattle.std.proofs.lemmas.List.{get_or_default, get_or-take, length-take-le, take_more_set}
+use Rattle.std.proofs.lemmas.List.{get_or_default, length-take-le, take_more_set}
 use Rattle.std.proofs.lemmas.Bool.{and_parts, and_from, or_left, or_right, or_from, cases_Bool, cond-true, cond-false, eqb-true, eq-eqb, ne_eqb, ltb-true}
 use Rattle.std.proofs.lemmas.Bool.Decides.{Decides-by_or}
 use Rattle.nodes.specs.declared.node.Node.{Node}
@@ -13,7 +13,7 @@ use Rattle.nodes.specs.Stores.{Absent, Did, dropped, there, pushed}
 use Rattle.nodes.specs.Drafts.{below, in_place, same_node, among, fits, misplaced, repeated, verdict}
 use Rattle.nodes.proofs.Canonical.{same}
 use Rattle.nodes.proofs.Indexes.{at_old, at_new}
-use Rattle.nodes.proofs.Grown.{Agree, Above, level-agree, ordered_grown, reduced_grown}
+use Rattle.nodes.proofs.Grown.{Agree, Above, level-agree, ordered_grown, reduced_grown, front-agree}
 
 -- the test for one node among others
 same_decides : (y x : Node) → Decides (same_node x y) (x ≡ y)
@@ -34,11 +34,8 @@ module _ (xs : List Node) (c : ℕ) (room : c ≤ length xs) where
   pub length_draft : length (take c xs) ≡ c
   length_draft = length-take-le c xs room
 
-  pub at_draft : Agree xs (take c xs) c
-  at_draft n two less = get_or-take c xs (n - 2) blank (omega arith)
-
   pub level_draft : (m n : ℕ) → n < c + 2 → level m (take c xs) n ≡ level m xs n
-  level_draft m n less = level-agree xs (take c xs) c at_draft m n less
+  level_draft m n less = level-agree xs (take c xs) c (front-agree xs c room) m n less
 
   -- a child in its place
   below_parts : (m v n : ℕ) → below m (take c xs) v n ≡ true → (n < c + 2) × (v < level m xs n)
@@ -60,7 +57,7 @@ module _ (xs : List Node) (c : ℕ) (room : c ≤ length xs) where
   there-among : (y : Node) (n : ℕ) → 2 ≤ n → n < c + 2 → at xs n ≡ y → among y (take c xs) ≡ true
   there-among y n two less e =
       let k : n - 2 < length (take c xs) = omega (arith, length_draft) in
-      (among_decides y (take c xs)).1 (n - 2, k, λ d. get_or_default (take c xs) (n - 2) d blank k ∙ at_draft n two less ∙ e)
+      (among_decides y (take c xs)).1 (n - 2, k, λ d. get_or_default (take c xs) (n - 2) d blank k ∙ front-agree xs c room n two less ∙ e)
 
   -- and one that is not
   absent_among : (y : Node) → Absent xs c y → among y (take c xs) ≡ false
@@ -71,7 +68,7 @@ module _ (xs : List Node) (c : ℕ) (room : c ≤ length xs) where
         let k = w.0 in
         let less : k < c = omega (arith, w.1, length_draft) in
         let i : k + 2 - 2 ≡ k = omega arith in
-        absurd (none (k + 2) (omega arith) (omega arith) (sym (at_draft (k + 2) (omega arith) (omega arith)) ∙ ap (λ (j : ℕ). get_or (take c xs) j blank) i ∙ w.2 blank))
+        absurd (none (k + 2) (omega arith) (omega arith) (sym (front-agree xs c room (k + 2) (omega arith) (omega arith)) ∙ ap (λ (j : ℕ). get_or (take c xs) j blank) i ∙ w.2 blank))
   ]
 
 -- the three verdicts

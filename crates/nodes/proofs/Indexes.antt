@@ -1,7 +1,7 @@
 -- The index by hash of a store, and the walk along a bucket.
-use Rattle.std.proofs.Common.{◌≡◌, ℕ, ◌+◌, ◌-◌, ◌<◌, ◌≤◌, ◌≢◌, List, length, get_or, set, replicate, sym, refl, ap, ◌∙◌, subst, ⊎_elim, arith}
+use Rattle.std.proofs.Common.{◌≡◌, ℕ, ◌+◌, ◌-◌, ◌<◌, ◌≤◌, ◌≢◌, List, length, get_or, take, set, replicate, sym, refl, ap, ◌∙◌, subst, ⊎_elim, arith}
 use Rattle.std.proofs.lemmas.Bool.{cases_lt, cases_eq}
-use Rattle.std.proofs.lemmas.List.{get_or-set_same, get_or-set_other, get_or-replicate, get_or_past, length-replicate}
+use Rattle.std.proofs.lemmas.List.{get_or-set_same, get_or-set_other, get_or-replicate, get_or_past, get_or-take, length-replicate}
 use Rattle.nodes.specs.declared.node.Node.{Node}
 use Rattle.nodes.specs.Diagrams.{at, blank}
 use Rattle.nodes.specs.Buckets.{hash, link, Indexed}
@@ -9,6 +9,9 @@ use Rattle.nodes.specs.Buckets.{hash, link, Indexed}
 -- the node at the index i
 pub at-index : (xs : List Node) (i : ℕ) → at xs (i + 2) ≡ get_or xs i blank
 at-index xs i = let e : i + 2 - 2 ≡ i = omega arith in rw e refl
+
+pub at-front : (xs : List Node) (c i : ℕ) → i < c → at xs (i + 2) ≡ get_or (take c xs) i blank
+at-front xs c i h = at-index xs i ∙ sym (get_or-take c xs i blank h)
 
 -- the nodes after a write behind them
 pub at_old : (xs : List Node) (c : ℕ) (node : Node) (n : ℕ) → 2 ≤ n → n < c + 2 → at (set xs c node) n ≡ at xs n

@@ -8,7 +8,8 @@ use Rattle.nodes.specs.declared.node.Node.{Node}
 use Rattle.nodes.specs.Diagrams.{at, blank, Ordered, Reach, start, to_low, to_high, Reached}
 use Rattle.nodes.specs.Marks.{Marked, Spread}
 use Rattle.nodes.specs.Drafts.{names, unnamed, top}
-use Rattle.nodes.proofs.Adding.{length_draft, at_draft}
+use Rattle.nodes.proofs.Grown.{front-agree}
+use Rattle.nodes.proofs.Adding.{length_draft}
 
 -- n is a child of y
 abbrev Parent : ℕ → Node → Type 0
@@ -80,7 +81,7 @@ module _ (m : ℕ) (xs : List Node) (c : ℕ) (room : c ≤ length xs) (o : Orde
         let k = w.0 in
         let kn : k < n - 1 = omega (arith, w.1, length-take-le (n - 1) (take c xs) (omega arith)) in
         let i : k + 2 - 2 ≡ k = omega arith in
-        let e0 : get_or (take (n - 1) (take c xs)) k blank ≡ at xs (k + 2) = get_or-take (n - 1) ys k blank kn ∙ ap (λ (j : ℕ). get_or ys j blank) (sym i) ∙ at_draft xs c room (k + 2) (omega arith) (omega arith) in
+        let e0 : get_or (take (n - 1) (take c xs)) k blank ≡ at xs (k + 2) = get_or-take (n - 1) ys k blank kn ∙ ap (λ (j : ℕ). get_or ys j blank) (sym i) ∙ front-agree xs c room (k + 2) (omega arith) (omega arith) in
         let p = o (k + 2) (omega arith) (omega arith) in
         let q : Parent n (at xs (k + 2)) = subst (Parent n) e0 (w.2 blank) in
         absurd (⊎_elim (λ (l : (at xs (k + 2)).low ≡ n). omega arith) (λ (l : (at xs (k + 2)).high ≡ n). omega arith) q)
@@ -144,7 +145,7 @@ module _ (xs : List Node) (c : ℕ) (room : c ≤ length xs) (all : unnamed 2 (t
       let inside : suc (n - 2) + k < c = omega (arith, w.1, length-drop (suc (n - 2)) (take c xs)) in
       let p : ℕ = suc (n - 2) + k + 2 in
       let i : suc (n - 2) + k + 2 - 2 ≡ suc (n - 2) + k = omega arith in
-      let e0 : get_or (drop (suc (n - 2)) (take c xs)) k blank ≡ at xs (suc (n - 2) + k + 2) = get_or-drop (suc (n - 2)) ys k blank ∙ ap (λ (j : ℕ). get_or ys j blank) (sym i) ∙ at_draft xs c room (suc (n - 2) + k + 2) (omega arith) (omega arith) in
+      let e0 : get_or (drop (suc (n - 2)) (take c xs)) k blank ≡ at xs (suc (n - 2) + k + 2) = get_or-drop (suc (n - 2)) ys k blank ∙ ap (λ (j : ℕ). get_or ys j blank) (sym i) ∙ front-agree xs c room (suc (n - 2) + k + 2) (omega arith) (omega arith) in
       (suc (n - 2) + k + 2, omega arith, omega arith, subst (Parent n) e0 (w.2 blank))
 
   come : (f n : ℕ) → c + 1 ≤ n + f → 2 ≤ n → n < c + 2 → Reach xs (c + 1) n

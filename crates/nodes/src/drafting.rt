@@ -139,14 +139,6 @@ impl Draft {
         if let Some(node) = self.first_unnamed() {
             return Err(Unnamed { node });
         }
-        let nodes = self.store.nodes;
-        let count = self.store.count;
-        let root = self.top(one);
-        Ok(NodeChart {
-            nodes,
-            count,
-            arity: self.arity,
-            root,
-        })
+        Ok(self.store.chart(self.arity, self.top(one)))
     }
 }

@@ -2,7 +2,7 @@ ghost use Rattle.std.specs.Prelude.{◌≡◌, ◌+◌, ◌*◌, ◌%◌, ◌<�
 ghost use Rattle.nodes.specs.Buckets.{hash, link, Indexed};
 
 use super::node::Node;
-use super::node_chart::ROOM;
+use super::node_chart::{NodeChart, ROOM};
 
 /// The nodes made so far, with an index by hash: a link is a node's number, or 0 for none.
 #[derive(Drop)]
@@ -29,7 +29,7 @@ fn bucket(n: Node) -> usize
 
 impl Store {
     ghost use Rattle.std.specs.Prelude.{◌≢◌, MatchOption, MatchResult, slice_set};
-    ghost use Rattle.nodes.specs.Diagrams.{at};
+    ghost use Rattle.nodes.specs.Diagrams.{at, Diagram};
     ghost use Rattle.nodes.specs.Stores.{Absent, Did};
 
     /// The store with no node.
@@ -98,5 +98,22 @@ impl Store {
             return Err(Full);
         }
         Ok(self.push(node))
+    }
+
+    /// The chart of these nodes with the root `root`.
+    pub(crate) fn chart(&self, arity: usize, root: u16) -> NodeChart
+        requires small { arity ≤ 16 }
+        requires diagram { Diagram arity self.now.nodes self.now.count root }
+        ensures nodes { result.nodes ≡ self.now.nodes }
+        ensures count { result.count ≡ self.now.count }
+        ensures arity { result.arity ≡ arity }
+        ensures root { result.root ≡ root }
+    {
+        NodeChart {
+            nodes: self.nodes,
+            count: self.count,
+            arity,
+            root,
+        }
     }
 }
