@@ -1,4 +1,4 @@
-ghost use Rattle.std.specs.Prelude.{◌≡◌, ◌+◌, ◌<◌, ◌≤◌, length};
+ghost use Rattle.std.specs.Prelude.{◌≡◌, ◌+◌, ◌<◌, ◌≤◌, false, length, slice_index_or};
 ghost use Rattle.nodes.specs.Diagrams.{Ordered};
 ghost use Rattle.nodes.specs.Marks.{Spread, renamed};
 
@@ -17,6 +17,14 @@ pub(crate) fn spread(marks: &mut [bool; SPAN], node: Node)
 {
     marks[usize::from(node.low)] = true;
     marks[usize::from(node.high)] = true;
+}
+
+/// Whether the node at `i` is marked.
+fn is_marked(marks: &[bool; SPAN], i: usize) -> bool
+    requires { i < 3072 }
+    ensures { result ≡ slice_index_or marks.now (i + 2) false }
+{
+    marks[i + 2]
 }
 
 /// The node with the new numbers of its children.
@@ -54,7 +62,7 @@ impl Unreduced<'_> {
         let mut marks = [false; SPAN];
         marks[usize::from(self.root)] = true;
         for (i, node) in self.nodes.iter().enumerate().rev() {
-            if marks[i + 2] {
+            if is_marked(&marks, i) {
                 spread(&mut marks, *node);
             }
         }
@@ -71,7 +79,7 @@ impl Unreduced<'_> {
         let mut new = [0; SPAN];
         new[1] = 1;
         for (i, old) in self.nodes.iter().enumerate() {
-            if marks[i + 2] {
+            if is_marked(&marks, i) {
                 new[i + 2] = store.make(renamed(*old, &new))?;
             }
         }
