@@ -1,6 +1,6 @@
 -- The nodes that others name, and the smallest that none names.
-use Rattle.std.proofs.Common.{◌≡◌, ℕ, zero, suc, ◌+◌, ◌-◌, ◌<◌, ◌≤◌, Bool, true, false, cond, ◌||◌, eqb, ◌⊎◌, List, [], ◌∷◌, ◌++◌, length, get_or, take, drop, Some, None, Decides, Option, sym, refl, ap, ◌∙◌, subst, inl, inr, ⊎_elim, arith}
-use Rattle.std.specs.List.{HoldsAt}
+use Rattle.std.proofs.Common.{◌≡◌, ℕ, zero, suc, ◌+◌, ◌-◌, ◌<◌, ◌≤◌, Bool, true, false, cond, not, ◌||◌, eqb, ◌⊎◌, List, [], ◌∷◌, ◌++◌, length, get_or, take, drop, Some, None, Decides, Option, sym, refl, ap, ◌∙◌, subst, inl, inr, ⊎_elim, arith}
+use Rattle.std.specs.List.{HoldsAt, find, range_with_len}
 use Rattle.std.proofs.lemmas.List.{at_drop_more, at_drop_all, drop_all, drop_more, get_or-drop, get_or-take, length-drop, length-take-le, take-append-drop, take_more}
 use Rattle.std.proofs.lemmas.Bool.{cases_Bool, cases_lt, cond-true, cond-false, eqb-true, eq-eqb, or_cases, or_left, or_right, true≢false}
 use Rattle.std.proofs.lemmas.Bool.Decides.{Decides-by_or, Decides-or, Decides-eqb}
@@ -49,11 +49,12 @@ spread_names old new y s n = elim (cases_Bool (get_or old n false || child n y))
   ]
 ]
 
-pub names_more : (xs : List Node) (i : ℕ) → i < length xs → (old new : List Bool) → Spread old new (get_or xs i blank) → ((n : ℕ) → get_or old n false ≡ names n (take i xs)) → (n : ℕ) → get_or new n false ≡ names n (take (i + 1) xs)
-names_more xs i h old new s e n =
+pub names_more : (xs : List Node) (c i : ℕ) → i < c → c ≤ length xs → (old new : List Bool) → Spread old new (get_or (take c xs) i blank) → ((n : ℕ) → get_or old n false ≡ names n (take i xs)) → (n : ℕ) → get_or new n false ≡ names n (take (i + 1) xs)
+names_more xs c i less room old new s e n =
     let y = get_or xs i blank in
     let p = child n (get_or xs i blank) in
-    spread_names old new y s n ∙ ap (λ (b : Bool). b || p) (e n) ∙ ap (λ (b : Bool). names n (take i xs) || b) (sym (or-false p)) ∙ sym (names-append n (take i xs) (y ∷ [])) ∙ sym (ap (names n) (take_more xs i blank h))
+    let h : i < length xs = omega arith in
+    spread_names old new y (subst (λ (z : Node). Spread old new z) (get_or-take c xs i blank less) s) n ∙ ap (λ (b : Bool). b || p) (e n) ∙ ap (λ (b : Bool). names n (take i xs) || b) (sym (or-false p)) ∙ sym (names-append n (take i xs) (y ∷ [])) ∙ sym (ap (names n) (take_more xs i blank h))
 
 -- one node further in the search for the smallest that none names
 pub unnamed-more : (ys : List Node) (n i : ℕ) → i + 1 < length ys → unnamed n (drop i ys) ≡ cond (names n (drop (i + 1) ys)) (unnamed (n + 1) (drop (i + 1) ys)) (Some n)
@@ -110,11 +111,18 @@ module _ (m : ℕ) (xs : List Node) (c : ℕ) (room : c ≤ length xs) (o : Orde
       ∙ ap (λ (t : Bool). cond t (unnamed (n + 1) (drop (n - 2 + 1) ys)) (Some n)) (ap (λ (k : ℕ). names n (drop k ys)) j ∙ later m xs c room o n two (omega arith) ∙ e)
       ∙ ap (λ (k : ℕ). cond b (unnamed (n + 1) (drop k ys)) (Some n)) i
 
-  pub turn_on : names n (take c xs) ≡ true → unnamed n (drop (n - 2) (take c xs)) ≡ unnamed (n + 1) (drop (n + 1 - 2) (take c xs))
-  turn_on e = turn true e
+-- the search from n on, by marks on the numbers that the nodes name
+module _ (m : ℕ) (xs : List Node) (c : ℕ) (room : c ≤ length xs) (o : Ordered m xs c) (marks : List Bool) (named : (n : ℕ) → get_or marks n false ≡ names n (take c xs)) where
+  pub find-unnamed : (k n : ℕ) → 2 ≤ n → k ≡ c + 1 - n → find (λ z. not (get_or marks z false)) (range_with_len n k) ≡ unnamed n (drop (n - 2) (take c xs))
+  find-unnamed zero n two e = sym (unnamed-none (take c xs) n (n - 2) (omega (arith, length_draft xs c room)))
+  find-unnamed (suc k) n two e = go (get_or marks n false) refl (find-unnamed k (n + 1) (omega arith) (omega arith))
+    where
+      rest : Option ℕ
+      rest = find (λ z. not (get_or marks z false)) (range_with_len (n + 1) k)
 
-  pub turn_found : names n (take c xs) ≡ false → unnamed n (drop (n - 2) (take c xs)) ≡ Some n
-  turn_found e = turn false e
+      go : (b : Bool) → get_or marks n false ≡ b → rest ≡ unnamed (n + 1) (drop (n + 1 - 2) (take c xs)) → cond (not b) (Some n) rest ≡ unnamed n (drop (n - 2) (take c xs))
+      go true h f = f ∙ sym (turn m xs c room o n two (omega arith) true (sym (named n) ∙ h))
+      go false h f = sym (turn m xs c room o n two (omega arith) false (sym (named n) ∙ h))
 
 -- where there is none, each node but the last has a later one that names it
 named-at : (n : ℕ) (ys : List Node) → unnamed n ys ≡ None → (j : ℕ) → suc j < length ys → names (n + j) (drop (suc j) ys) ≡ true

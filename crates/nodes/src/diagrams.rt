@@ -63,7 +63,7 @@ impl Chart for NodeChart {
     }
 
     fn top(&self) -> usize {
-        self.root as usize
+        usize::from(self.root)
     }
 
     fn step(&self, depth: usize, place: usize, value: bool) -> usize {
@@ -72,13 +72,13 @@ impl Chart for NodeChart {
         }
         let n = self.number(depth, place);
         if n < 2 {
-            return n as usize;
+            return usize::from(n);
         }
-        let node = self.nodes[n as usize - 2];
-        if node.var as usize == depth {
-            child_of(node, value) as usize
+        let node = self.nodes[usize::from(n) - 2];
+        if usize::from(node.var) == depth {
+            usize::from(child_of(node, value))
         } else {
-            n as usize
+            usize::from(n)
         }
     }
 

@@ -62,7 +62,7 @@ impl Draft {
         if n < 2 {
             self.arity
         } else {
-            self.store.nodes[n as usize - 2].var as usize
+            usize::from(self.store.nodes[usize::from(n) - 2].var)
         }
     }
 
@@ -70,7 +70,7 @@ impl Draft {
     fn below(&self, var: u8, n: u16) -> bool
         ensures { result ≡ is_below self.now.arity (drafted self.now) var n }
     {
-        (n as usize) < self.count() + 2 && (var as usize) < self.level(n)
+        usize::from(n) < self.count() + 2 && usize::from(var) < self.level(n)
     }
 
     /// Whether a new node would be in order.
@@ -78,7 +78,7 @@ impl Draft {
         ensures { result ≡ in_place self.now.arity (drafted self.now) node }
     {
         let var = node.var;
-        (var as usize) < self.arity && self.below(var, node.low) && self.below(var, node.high)
+        usize::from(var) < self.arity && self.below(var, node.low) && self.below(var, node.high)
     }
 
     /// Adds a node behind the others, with the number that is 2 more than their count.
@@ -103,8 +103,8 @@ impl Draft {
         ensures { (n : ℕ) → slice_index_or result n false ≡ names n (drafted self.now) }
     {
         let mut marks = [false; SPAN];
-        for i in 0..self.store.count {
-            spread(&mut marks, self.store.nodes[i]);
+        for node in &self.store.nodes[..self.store.count] {
+            spread(&mut marks, *node);
         }
         marks
     }
@@ -114,12 +114,7 @@ impl Draft {
         ensures { result ≡ unnamed 2 (drafted self.now) }
     {
         let marks = self.named();
-        for n in 2..self.store.count + 1 {
-            if !marks[n] {
-                return Some(n);
-            }
-        }
-        None
+        (2..self.store.count + 1).find(|n| !marks[*n])
     }
 
     /// The number of the last node, or of the end `one` where there is no node.
@@ -127,7 +122,7 @@ impl Draft {
         ensures { result ≡ top (drafted self.now) one }
     {
         match self.store.count {
-            0 => one as u16,
+            0 => u16::from(one),
             count => count as u16 + 1,
         }
     }

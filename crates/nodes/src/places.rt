@@ -24,7 +24,7 @@ impl NodeChart {
     pub(crate) fn number(&self, depth: usize, n: usize) -> u16
         ensures { result ≡ seen self.now.nodes self.now.count depth n }
     {
-        if n < 2 || (n < self.count + 2 && depth <= self.nodes[n - 2].var as usize) {
+        if n < 2 || (n < self.count + 2 && depth <= usize::from(self.nodes[n - 2].var)) {
             n as u16
         } else {
             0

@@ -8,4 +8,4 @@ returns-else-n-lt2 c =
     let d = c.args.self.now in
     let n = c.args.n in
     let e = length_draft d.store.nodes d.store.count (omega arith) in
-    sym (level_draft d.store.nodes d.store.count (omega arith) d.arity n (omega (arith, c.requires)) ∙ level-node d.arity d.store.nodes n (omega arith))
+    (rw c.from.ensures at c.from-else-n-lt2.ensures) ∙ sym (level_draft d.store.nodes d.store.count (omega arith) d.arity n (omega (arith, c.requires)) ∙ level-node d.arity d.store.nodes n (omega arith))
