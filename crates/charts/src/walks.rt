@@ -1,14 +1,9 @@
 ghost use Rattle.std.specs.Prelude.{◌≡◌, ◌/◌, ◌%◌, ◌^◌, ◌==◌};
 ghost use Rattle.functions.specs.Words.{bits};
 ghost use Rattle.functions.specs.Functions.{under};
-ghost use Rattle.charts.specs.Walks.{ColumnArities, chart_function, reached};
+ghost use Rattle.charts.specs.Walks.{chart_function, reached};
 
 use super::chart::Chart;
-
-/// Every column of a chart is a function of the arguments that are left at its depth.
-pub fn columns_lawful<C: Chart>()
-    ensures { ColumnArities C.Chart }
-{}
 
 /// Whether the number `a` has the bit of weight 2^`k`.
 fn digit(a: usize, k: usize) -> bool

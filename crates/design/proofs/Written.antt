@@ -6,8 +6,8 @@ use Rattle.charts.specs.declared.chart.Chart as chart
 use Rattle.charts.proofs.ClassLists.{take_min}
 use Rattle.rules.specs.declared.rule.CodeRule as rule
 use Rattle.families.specs.declared.family.CellFamily as family
-use Rattle.families.specs.declared.packing.PackRefusal.{PackRefusal}
-use Rattle.families.specs.Packing.{Written as Packs}
+use Rattle.buffers.specs.declared.WriteRefusal.{WriteRefusal}
+use Rattle.buffers.specs.Written.{Written as Packs}
 use Rattle.frames.specs.declared.frame.Frame.{Frame}
 use Rattle.frames.specs.Outcome.{body}
 use Rattle.frames.specs.Text.{over, text}
@@ -62,7 +62,7 @@ content_all k n i fs bs e h is =
     ap (take n) (is ∙ ap (λ xs. (k ∷ xs) ++ replicate (22 - i) k) all) ∙ take_at (k ∷ fs) (replicate (22 - i) k) n (omega arith)
 
 -- bytes in front of an array that has room for them
-pub packed_front : {U : Type 0} (bs before after : List ℕ) (r : Result U PackRefusal) (n : ℕ) → length bs ≡ n → n ≤ length before → Packs bs before after r → (take n after ≡ bs)
+pub packed_front : {U : Type 0} (bs before after : List ℕ) (r : Result U WriteRefusal) (n : ℕ) → length bs ≡ n → n ≤ length before → Packs bs before after r → (take n after ≡ bs)
 packed_front bs before after (Ok u) n e h w = ap (take n) w.1 ∙ take_at bs (drop (length bs) before) n e
 packed_front bs before after (Err x) n e h w = let l = w.0 in absurd (omega arith)
 

@@ -9,9 +9,9 @@ ghost use Rattle.design.specs.Designs.{split_answer, SplitCall};
 use super::codes::{add_code_cells, class_numbers, code_classes};
 use super::design::Design;
 use super::tables::assignments;
+use bits::power;
 use charts::{Chart, number_classes};
 use families::family::CellFamily;
-use functions::power;
 use mapping::refusal::Refusal;
 use rules::rule::CodeRule;
 
