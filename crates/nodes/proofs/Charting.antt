@@ -117,23 +117,17 @@ became s t m f d = record {
 pub code_room : (j : ℕ) → j ≤ 4 → 2 ^ j ≤ 16
 code_room j h = pow_mono h
 
--- the first codes' leaves, whose numbers are in front in a list of 16
+-- the codes' leaves, whose numbers are in front in a list of 16
 pub record Coded (f : ℕ → ℕ) (class_of : List ℕ) (j : ℕ) (leaves : List ℕ) : Type 0 where
   pub many : length leaves ≡ 2 ^ j
   pub few : length leaves ≤ 16
   pub each : (q : ℕ) → q < length leaves → get_or leaves q 0 ≡ f (get_or class_of q 0)
 
-pub coded : (f : ℕ → ℕ) (class_of : List ℕ) (j w : ℕ) → w ≡ 2 ^ j → j ≤ 4 → 2 ^ j ≤ length class_of → (leaves : List ℕ) → length leaves ≡ 16 → ((q : ℕ) → q < length (take w class_of) → get_or leaves q 0 ≡ f (get_or (take w class_of) q 0)) →
-    Coded f class_of j (take (length (take w class_of)) leaves)
-coded f class_of j w we jl h leaves len each =
+pub coded : (f : ℕ → ℕ) (class_of : List ℕ) (j w : ℕ) → w ≡ 2 ^ j → j ≤ 4 → (leaves : List ℕ) → length leaves ≡ 16 → ((q : ℕ) → q < 2 ^ j → get_or leaves q 0 ≡ f (get_or class_of q 0)) → Coded f class_of j (take w leaves)
+coded f class_of j w we jl leaves len each =
     let room = code_room j jl in
-    let k = length-take-le w class_of (omega arith) in
-    let long : length (take (length (take w class_of)) leaves) ≡ w = length-take-le (length (take w class_of)) leaves (omega arith) ∙ k in
-    record {
-      many = long ∙ we;
-      few = omega arith;
-      each = λ q less. get_or-take (length (take w class_of)) leaves q 0 (omega arith) ∙ each q (omega arith) ∙ ap f (get_or-take w class_of q 0 (omega arith));
-    }
+    let long = length-take-le w leaves (omega arith) in
+    record { many = long ∙ we; few = omega arith; each = λ q less. get_or-take w leaves q 0 (omega arith) ∙ each q (omega arith) }
 
 module _ (s : NodeChart) (b j : ℕ) (places class_of : List ℕ) (ok : Recodable s.arity b j (length places) class_of) (leaves : List ℕ) (codes : Coded (λ z. seen s.nodes s.count b (get_or places z 0)) class_of j leaves) where
   -- each leaf is there at the depth b

@@ -12,7 +12,7 @@ use super::node_chart::{NodeChart, ROOM};
 use super::places::{child_of, is_one};
 use super::recode::redrawn;
 use super::store::Full;
-use charts::{Chart, ChartRefusal, recodable};
+use charts::{Chart, ChartRefusal, Recoding};
 
 impl NodeChart {
     /// The constant 0 of no arguments.
@@ -99,17 +99,11 @@ impl Chart for NodeChart {
         Ok(())
     }
 
-    fn recode(
-        &mut self,
-        b: usize,
-        j: usize,
-        places: &[usize],
-        class_of: &[usize],
-    ) -> Result<(), ChartRefusal> {
-        if !recodable(self.arity, b, j, places.len(), class_of) {
+    fn recode(&mut self, recoding: &Recoding<usize>) -> Result<(), ChartRefusal> {
+        if !recoding.in_range(self.arity) {
             return Err(ChartRefusal::OutOfRange);
         }
-        *self = redrawn(self, b, j, places, class_of)?;
+        *self = redrawn(self, recoding)?;
         Ok(())
     }
 }

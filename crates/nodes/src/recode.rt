@@ -1,7 +1,7 @@
-ghost use Rattle.std.specs.Prelude.{◌≡◌, ℕ, ◌+◌, ◌-◌, ◌<◌, ◌≤◌, map, length, slice_index, slice_index_or};
+ghost use Rattle.std.specs.Prelude.{◌≡◌, ℕ, ◌+◌, ◌-◌, ◌^◌, ◌<◌, ◌≤◌, map, length, slice_index};
 ghost use Rattle.functions.specs.Functions.{recoded};
 ghost use Rattle.charts.specs.Changes.{Recodable};
-ghost use Rattle.nodes.specs.Diagrams.{node, blank, mean, Ordered};
+ghost use Rattle.nodes.specs.Diagrams.{node, blank};
 ghost use Rattle.nodes.specs.Recodes.{Shifts};
 ghost use Rattle.nodes.specs.NodeCharts.{seen, place_column, Draws};
 
@@ -10,6 +10,7 @@ use super::node_chart::NodeChart;
 use super::raw::Raw;
 use super::store::Full;
 use bits::power;
+use charts::Recoding;
 
 /// The node once `j` variables stand in the place of the first `b`: a blank if its own is one of these.
 fn moved(old: Node, b: u8, j: u8) -> Node
@@ -44,33 +45,27 @@ fn shifted(chart: &NodeChart, b: u8, j: u8) -> Raw
     raw
 }
 
-/// The number of the place of each code's class at depth `b`, in front of zeros.
-fn leaves_of(chart: &NodeChart, b: usize, places: &[usize], codes: &[usize]) -> [u16; 16]
-    requires few { length codes.now ≤ 16 }
-    requires placed { (q : ℕ) → q < length codes.now → slice_index_or codes.now q 0 < length places.now }
-    ensures { (q : ℕ) → q < length codes.now → slice_index result q ≡ seen chart.now.nodes chart.now.count b (slice_index places.now (slice_index_or codes.now q 0)) }
+/// The number of the place of each code's class, in front of zeros.
+fn leaves_of(chart: &NodeChart, recoding: &Recoding<usize>) -> [u16; 16]
+    requires { Recodable chart.now.arity recoding.now.bound recoding.now.codes (length recoding.now.places.now) recoding.now.class_of.now }
+    ensures { (q : ℕ) → q < 2 ^ recoding.now.codes → slice_index result q ≡ seen chart.now.nodes chart.now.count recoding.now.bound (slice_index recoding.now.places.now (slice_index recoding.now.class_of.now q)) }
 {
     let mut leaves = [0; 16];
+    let codes = &recoding.class_of[..power(recoding.codes)];
     for (q, class) in codes.iter().enumerate() {
-        leaves[q] = chart.number(b, places[*class]);
+        leaves[q] = chart.number(recoding.bound, recoding.places[*class]);
     }
     leaves
 }
 
-/// The chart with `j` variables in the place of the first `b`, if the function's size is at most 1,024.
-pub(crate) fn redrawn(
-    chart: &NodeChart,
-    b: usize,
-    j: usize,
-    places: &[usize],
-    class_of: &[usize],
-) -> Result<NodeChart, Full>
-    requires { Recodable chart.now.arity b j (length places.now) class_of.now }
-    ensures { Draws (chart.now.arity - b + j) (recoded j (map (place_column chart.now b) places.now) (λ q. slice_index_or class_of.now q 0)) result }
+/// The recoded chart, if the function's size is at most 1,024.
+pub(crate) fn redrawn(chart: &NodeChart, recoding: &Recoding<usize>) -> Result<NodeChart, Full>
+    requires { Recodable chart.now.arity recoding.now.bound recoding.now.codes (length recoding.now.places.now) recoding.now.class_of.now }
+    ensures { Draws (chart.now.arity - recoding.now.bound + recoding.now.codes) (recoded recoding.now.codes (map (place_column chart.now recoding.now.bound) recoding.now.places.now) (λ q. slice_index recoding.now.class_of.now q)) result }
 {
-    let codes = &class_of[..power(j)];
-    let leaves = leaves_of(chart, b, places, codes);
-    let mut raw = shifted(chart, b as u8, j as u8);
-    let root = raw.crown(&leaves[..codes.len()], 0, j as u8);
+    let (b, j) = (recoding.bound as u8, recoding.codes as u8);
+    let leaves = leaves_of(chart, recoding);
+    let mut raw = shifted(chart, b, j);
+    let root = raw.crown(&leaves[..power(recoding.codes)], 0, j);
     raw.reduced(root)
 }
