@@ -1,5 +1,5 @@
 -- The index of nodes by hash: each bucket's nodes are linked from its last one back.
-use Rattle.std.specs.Prelude.{◌≡◌, ℕ, ◌+◌, ◌-◌, ◌*◌, ◌%◌, ◌<◌, ◌≤◌, List, slice_index}
+use Rattle.std.specs.Prelude.{◌≡◌, ℕ, ◌+◌, ◌-◌, ◌*◌, ◌%◌, ◌<◌, ◌≤◌, List, Option, None, Some, slice_index_or, unwrap_or}
 use Rattle.nodes.specs.declared.node.Node.{Node}
 use Rattle.nodes.specs.Diagrams.{at}
 
@@ -7,13 +7,17 @@ use Rattle.nodes.specs.Diagrams.{at}
 abbrev pub hash : Node → ℕ
 hash n = (n.low * 31 + n.high * 5 + n.var) % 1024
 
--- the link of the node n
-abbrev pub link : List ℕ → ℕ → ℕ
-link nexts n = slice_index nexts (n - 2)
+-- the head of a bucket
+abbrev pub head : List (Option ℕ) → ℕ → Option ℕ
+head heads b = slice_index_or heads b None
 
--- a bucket's head is its last node, and a link the last one before it in the bucket; 0 is none
-pub record Indexed (xs : List Node) (heads nexts : List ℕ) (c : ℕ) : Type 0 where
-  pub head_all : (n : ℕ) → 2 ≤ n → n < c + 2 → n ≤ slice_index heads (hash (at xs n))
-  pub head_of : (b : ℕ) → 0 < slice_index heads b → (2 ≤ slice_index heads b) × (slice_index heads b < c + 2) × (hash (at xs (slice_index heads b)) ≡ b)
-  pub next_all : (n a : ℕ) → 2 ≤ a → a < n → n < c + 2 → hash (at xs a) ≡ hash (at xs n) → a ≤ link nexts n
-  pub next_of : (n : ℕ) → 2 ≤ n → n < c + 2 → 0 < link nexts n → (2 ≤ link nexts n) × (link nexts n < n) × (hash (at xs (link nexts n)) ≡ hash (at xs n))
+-- the link of the node n
+abbrev pub link : List (Option ℕ) → ℕ → Option ℕ
+link nexts n = slice_index_or nexts (n - 2) None
+
+-- a bucket's head is its last node, and a link the last one before it in the bucket
+pub record Indexed (xs : List Node) (heads nexts : List (Option ℕ)) (c : ℕ) : Type 0 where
+  pub head_all : (n : ℕ) → 2 ≤ n → n < c + 2 → n ≤ unwrap_or (head heads (hash (at xs n))) 0
+  pub head_of : (b n : ℕ) → head heads b ≡ Some n → (2 ≤ n) × (n < c + 2) × (hash (at xs n) ≡ b)
+  pub next_all : (n a : ℕ) → 2 ≤ a → a < n → n < c + 2 → hash (at xs a) ≡ hash (at xs n) → a ≤ unwrap_or (link nexts n) 0
+  pub next_of : (n l : ℕ) → 2 ≤ n → n < c + 2 → link nexts n ≡ Some l → (2 ≤ l) × (l < n) × (hash (at xs l) ≡ hash (at xs n))

@@ -4,13 +4,13 @@ ghost use Rattle.nodes.specs.Buckets.{hash, link, Indexed};
 use super::node::Node;
 use super::node_chart::{NodeChart, ROOM};
 
-/// The nodes made so far, with an index by hash: a link is a node's number, or 0 for none.
+/// The nodes made so far, with an index by hash: each bucket's nodes are linked from its last one back.
 #[derive(Drop)]
 pub(crate) struct Store {
     pub(crate) nodes: [Node; ROOM],
     pub(crate) count: usize,
-    pub(crate) heads: [u16; ROOM],
-    pub(crate) nexts: [u16; ROOM],
+    pub(crate) heads: [Option<u16>; ROOM],
+    pub(crate) nexts: [Option<u16>; ROOM],
     ghost long: { length nodes ≡ 1024 },
     ghost room: { count ≤ 1024 },
     ghost indexed: { Indexed nodes heads nexts count },
@@ -39,13 +39,13 @@ impl Store {
         Store {
             nodes: [Node::new(0, 0, 0); ROOM],
             count: 0,
-            heads: [0; ROOM],
-            nexts: [0; ROOM],
+            heads: [None; ROOM],
+            nexts: [None; ROOM],
         }
     }
 
     /// The link of the node with the number `n`.
-    fn after(&self, n: u16) -> u16
+    fn after(&self, n: u16) -> Option<u16>
         requires there { 2 ≤ n }
         requires inside { n < 1026 }
         ensures { result ≡ link self.now.nexts n }
@@ -58,11 +58,11 @@ impl Store {
         ensures { MatchOption result (Absent self.now.nodes self.now.count node) (λ n. (2 ≤ n) × (n < self.now.count + 2) × (at self.now.nodes n ≡ node)) }
     {
         let mut cur = self.heads[bucket(node)];
-        while cur != 0 {
-            if self.nodes[usize::from(cur) - 2] == node {
-                return Some(cur);
+        while let Some(n) = cur {
+            if self.nodes[usize::from(n) - 2] == node {
+                return Some(n);
             }
-            cur = self.after(cur);
+            cur = self.after(n);
         }
         None
     }
@@ -79,7 +79,7 @@ impl Store {
         let number = (i + 2) as u16;
         self.nodes[i] = node;
         self.nexts[i] = self.heads[b];
-        self.heads[b] = number;
+        self.heads[b] = Some(number);
         self.count = i + 1;
         number
     }
