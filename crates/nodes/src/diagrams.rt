@@ -9,7 +9,7 @@ ghost use Rattle.nodes.specs.NodeLaws.{node_laws};
 use super::exchange::exchange;
 use super::node::Node;
 use super::node_chart::{NodeChart, ROOM};
-use super::places::{child_of, is_one};
+use super::places::is_one;
 use super::recode::redrawn;
 use super::store::Full;
 use charts::{Chart, ChartRefusal, Recoding};
@@ -76,7 +76,7 @@ impl Chart for NodeChart {
         }
         let node = self.nodes[usize::from(n) - 2];
         if usize::from(node.var) == depth {
-            usize::from(child_of(node, value))
+            usize::from(node.child(value))
         } else {
             usize::from(n)
         }

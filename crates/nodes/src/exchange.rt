@@ -6,7 +6,6 @@ ghost use Rattle.nodes.specs.NodeCharts.{node_function, Draws};
 
 use super::node::Node;
 use super::node_chart::NodeChart;
-use super::places::child_of;
 use super::raw::Raw;
 use super::store::Full;
 
@@ -44,7 +43,7 @@ fn led(chart: &NodeChart, value: bool, var: u8, n: u16) -> u16
     if n > 1 {
         let node = read(chart, usize::from(n) - 2);
         if node.var == var {
-            return tripled(child_of(node, value));
+            return tripled(node.child(value));
         }
     }
     tripled(n)

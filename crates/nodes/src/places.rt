@@ -1,16 +1,7 @@
 ghost use Rattle.std.specs.Prelude.{◌≡◌, ◌==◌};
-ghost use Rattle.nodes.specs.Diagrams.{child};
 ghost use Rattle.nodes.specs.NodeCharts.{seen};
 
-use super::node::Node;
 use super::node_chart::NodeChart;
-
-/// The child of a node where its variable has the value.
-pub(crate) fn child_of(node: Node, value: bool) -> u16
-    ensures { result ≡ child value node }
-{
-    if value { node.high } else { node.low }
-}
 
 /// Whether a place is the end 1.
 pub(crate) fn is_one(place: usize) -> bool

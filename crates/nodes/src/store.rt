@@ -7,6 +7,7 @@ use super::node_chart::{NodeChart, ROOM};
 /// The nodes made so far, with an index by hash: each bucket's nodes are linked from its last one back.
 #[derive(Drop)]
 pub(crate) struct Store {
+    // Kept: an array with a count, and numbers in place of boxes, as nodes are shared and no heap is used here.
     pub(crate) nodes: [Node; ROOM],
     pub(crate) count: usize,
     pub(crate) heads: [Option<u16>; ROOM],
@@ -57,6 +58,7 @@ impl Store {
     fn find(&self, node: Node) -> Option<u16>
         ensures { MatchOption result (Absent self.now.nodes self.now.count node) (λ n. (2 ≤ n) × (n < self.now.count + 2) × (at self.now.nodes n ≡ node)) }
     {
+        // Kept: as `successors(..).find(..)` the proof did not close, since nothing there says that the links end.
         let mut cur = self.heads[bucket(node)];
         while let Some(n) = cur {
             if self.nodes[usize::from(n) - 2] == node {
