@@ -50,7 +50,7 @@ fn leaves_of(chart: &NodeChart, recoding: &Recoding<usize>) -> [u16; 16]
     requires { Recodable chart.now.arity recoding.now.bound recoding.now.codes (length recoding.now.places.now) recoding.now.class_of.now }
     ensures { (q : ℕ) → q < 2 ^ recoding.now.codes → slice_index result q ≡ seen chart.now.nodes chart.now.count recoding.now.bound (slice_index recoding.now.places.now (slice_index recoding.now.class_of.now q)) }
 {
-    // Kept: written by index, as nothing is known of the elements after a `zip` of `iter_mut`.
+    // Kept: written by index. As a `zip` of `iter_mut` the proof did not close: nothing is known of what it wrote.
     let mut leaves = [0; 16];
     let codes = &recoding.class_of[..power(recoding.codes)];
     for (q, class) in codes.iter().enumerate() {
