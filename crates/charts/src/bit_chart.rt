@@ -72,6 +72,7 @@ impl BitChart {
         }
     }
 
+    #[tactic(auto, using(crate::proofs::Stretches::table_size))]
     /// The function of `n` arguments with these entries: none if there are more than 12 arguments, or not 2^`n` entries.
     pub fn with_entries(n: usize, entries: &[bool]) -> Option<BitChart>
         ensures { Loaded n entries.now result }
@@ -84,6 +85,7 @@ impl BitChart {
         Some(BitChart { table, count: n })
     }
 
+    #[tactic(auto, using(crate::proofs::Stretches::table_size))]
     /// How many entries a place at a depth has.
     fn size(&self, depth: usize) -> usize
         ensures value { result ≡ 2 ^ (self.now.count - depth) }
@@ -92,6 +94,7 @@ impl BitChart {
         power(self.count.saturating_sub(depth))
     }
 
+    #[tactic(auto, using(crate::proofs::Stretches::part_fits, crate::proofs::Stretches::there_test))]
     /// Whether the chart has the place at a depth.
     fn has(&self, depth: usize, place: Stretch) -> bool
         ensures { result ≡ there self.now.count (self.now.count - depth) place }
@@ -143,6 +146,7 @@ impl BitChart {
         self.entry(recoding.bound, place, x % size)
     }
 
+    #[tactic(auto, using(crate::proofs::Stretches::table_size))]
     /// The recoded table, one row for each code.
     fn rows(&self, recoding: &Recoding<Stretch>) -> [bool; ENTRIES]
         requires ready { Recodable self.now.count recoding.now.bound recoding.now.codes (length recoding.now.places.now) recoding.now.class_of.now }

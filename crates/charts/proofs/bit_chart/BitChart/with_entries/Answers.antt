@@ -2,17 +2,14 @@ use Rattle.std.proofs.Common.{◌≤◌, length, rules, arith}
 use Rattle.charts.proofs.Stretches.{table_size, loads}
 use Rattle.charts.proofs.bit_chart.BitChart.with_entries.Goals as goal
 
-pub slice_bounds-table-end : goal.slice_bounds-table-end
-slice_bounds-table-end c = omega (arith, table_size c.args.n c.if-n-gt-MOST.false, c.power.ensures.within)
-
 pub slice_bounds-copy_from_slice-end : goal.slice_bounds-copy_from_slice-end
 slice_bounds-copy_from_slice-end c =
-    let few : length c.args.entries.now ≤ 4096 = omega (arith, table_size c.args.n c.if-n-gt-MOST.false, c.power.ensures.within) in
+    let few : length c.args.entries.now ≤ 4096 = omega (arith, table_size, c.power.ensures.within) in
     search rules
 
 pub copy_from_slice-requires : goal.copy_from_slice-requires
 copy_from_slice-requires c =
-    let few : length c.args.entries.now ≤ 4096 = omega (arith, table_size c.args.n c.if-n-gt-MOST.false, c.power.ensures.within) in
+    let few : length c.args.entries.now ≤ 4096 = omega (arith, table_size, c.power.ensures.within) in
     search rules
 
 pub returns : goal.returns
