@@ -35,16 +35,16 @@ wrote xs b v q h =
     (λ (e : q ≡ b → ⊥). miss e (get_or-set_other xs b q v None e))
     (cases_eq q b)
 
--- a list of no links has none
-nones : (k q : ℕ) → get_or {A = Option ℕ} (replicate k None) q None ≡ None
-nones k q = ⊎_elim (λ (h : q < k). get_or-replicate k q None None h) (λ (h : k ≤ q). get_or_past (replicate k None) q None (omega (arith, length-replicate {A = Option ℕ} k None))) (cases_lt q k)
+-- a list of copies has no other entry
+pub get_or-copies : {A : Type 0} (k q : ℕ) (d : A) → get_or (replicate k d) q d ≡ d
+get_or-copies k q d = ⊎_elim (λ (h : q < k). get_or-replicate k q d d h) (λ (h : k ≤ q). get_or_past (replicate k d) q d (omega (arith, length-replicate k d))) (cases_lt q k)
 
 -- the index of no node
 pub index-none : (xs : List Node) (j k : ℕ) → Indexed xs (replicate j None) (replicate k None) 0
 index-none xs j k =
     record {
       head_all = λ n h l. omega arith;
-      head_of = λ b n e. let z = nones j b in absurd (cc);
+      head_of = λ b n e. let z : ◌≡◌ {A = Option ℕ} None (Some n) = sym (get_or-copies {A = Option ℕ} j b None) ∙ e in absurd (cc);
       next_all = λ n a h l k e. omega arith;
       next_of = λ n l two less e. omega arith;
     }

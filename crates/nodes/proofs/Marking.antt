@@ -1,10 +1,11 @@
 -- The marks on what is come to from the root.
 use Rattle.std.proofs.Common.{◌≡◌, ℕ, ◌+◌, ◌-◌, ◌<◌, ◌≤◌, Bool, true, false, ◌⊎◌, List, [], ◌∷◌, ◌++◌, length, get_or, set, replicate, sym, ap, ◌∙◌, subst, inl, inr, ⊎_elim, append_assoc, length-append, arith}
-use Rattle.std.proofs.lemmas.Bool.{cases_lt, cases_eq, true≢false}
-use Rattle.std.proofs.lemmas.List.{get_or-set_same, get_or-set_other, get_or-replicate, get_or_past, append-nil, length-replicate, length-set, length_push}
+use Rattle.std.proofs.lemmas.Bool.{cases_eq, true≢false}
+use Rattle.std.proofs.lemmas.List.{get_or-set_same, get_or-set_other, append-nil, length-replicate, length-set, length_push}
 use Rattle.std.proofs.Math.Seq.{get_or-append_seam}
 use Rattle.nodes.specs.declared.node.Node.{Node}
 use Rattle.nodes.specs.Diagrams.{at, blank, Ordered, Reach, start, to_low, to_high}
+use Rattle.nodes.proofs.Indexes.{get_or-copies}
 use Rattle.nodes.specs.Marks.{Marked, Spread, Marks}
 
 -- a mark more keeps the marks
@@ -38,10 +39,6 @@ spread_is marks node l h =
       high = get_or-set_same (set marks node.low true) node.high true false h';
     }
 
--- no mark at first
-pub no_marks : (j n : ℕ) → get_or (replicate j false) n false ≡ false
-no_marks j n = ⊎_elim (λ (h : n < j). get_or-replicate j n false false h) (λ (h : j ≤ n). get_or_past (replicate j false) n false (omega (arith, length-replicate j false))) (cases_lt n j)
-
 -- the root is marked first
 pub marks_first : (xs : List Node) (j root : ℕ) → root < j → Marks xs root (length xs + 2) (set (replicate j false) root true)
 marks_first xs j root h =
@@ -49,7 +46,7 @@ marks_first xs j root h =
       top = get_or-set_same (replicate j false) root true false (omega (arith, length-replicate j false));
       sound = λ n m.
           ⊎_elim
-          (λ (q : Marked (replicate j false) n). absurd (true≢false (sym q ∙ no_marks j n)))
+          (λ (q : Marked (replicate j false) n). absurd (true≢false (sym q ∙ get_or-copies j n false)))
           (λ (e : n ≡ root). let P : ℕ → Type 0 = λ t. Reach xs root t in subst P (sym e) start)
           (set-only (replicate j false) root n m);
       closed = λ n f two less m. absurd (omega arith);

@@ -4,6 +4,7 @@ use Rattle.std.specs.List.{HoldsAt, find, range_with_len}
 use Rattle.std.proofs.lemmas.List.{at_drop_more, at_drop_all, drop_all, drop_more, get_or-drop, get_or-take, length-drop, length-take-le, take-append-drop, take_more}
 use Rattle.std.proofs.lemmas.Bool.{cases_Bool, cases_lt, cond-true, cond-false, eqb-true, eq-eqb, or_cases, or_left, or_right, true≢false}
 use Rattle.std.proofs.lemmas.Bool.Decides.{Decides-by_or, Decides-or, Decides-eqb}
+use Rattle.std.proofs.Math.Bool.{or_assoc, or-false}
 use Rattle.nodes.specs.declared.node.Node.{Node}
 use Rattle.nodes.specs.Diagrams.{at, blank, Ordered, Reach, start, to_low, to_high, Reached}
 use Rattle.nodes.specs.Marks.{Marked, Spread}
@@ -22,19 +23,11 @@ child n y = eqb y.low n || eqb y.high n
 names_decides : (n : ℕ) (ys : List Node) → Decides (names n ys) ((k : ℕ) × (k < length ys) × HoldsAt (Parent n) ys k)
 names_decides n = Decides-by_or (child n) (Parent n) (names n) (λ x. Decides-or _ _ (Decides-eqb x.low n) (Decides-eqb x.high n)) refl (λ _ _. refl)
 
-or_joined : (a b c : Bool) → (a || (b || c)) ≡ ((a || b) || c)
-or_joined true b c = refl
-or_joined false b c = refl
-
 names-append : (n : ℕ) (xs ys : List Node) → names n (xs ++ ys) ≡ (names n xs || names n ys)
 names-append n [] ys = refl
-names-append n (x ∷ xs) ys = let p = child n x in ap (λ (b : Bool). p || b) (names-append n xs ys) ∙ or_joined p (names n xs) (names n ys)
+names-append n (x ∷ xs) ys = let p = child n x in ap (λ (b : Bool). p || b) (names-append n xs ys) ∙ sym (or_assoc p (names n xs) (names n ys))
 
 -- the marks of two children more
-or-false : (a : Bool) → (a || false) ≡ a
-or-false true = refl
-or-false false = refl
-
 spread_names : (old new : List Bool) (y : Node) → Spread old new y → (n : ℕ) → get_or new n false ≡ (get_or old n false || child n y)
 spread_names old new y s n = elim (cases_Bool (get_or old n false || child n y)) [
   | inl e ↦

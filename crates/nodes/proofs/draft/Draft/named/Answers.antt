@@ -1,12 +1,11 @@
 use Rattle.std.proofs.Common.{◌+◌, ◌<◌, subst, arith}
 use Rattle.nodes.specs.declared.node.Node.{Node}
-use Rattle.nodes.proofs.Indexes.{at-front}
-use Rattle.nodes.proofs.Marking.{no_marks}
+use Rattle.nodes.proofs.Indexes.{at-front, get_or-copies}
 use Rattle.nodes.proofs.Naming.{names_more}
 use Rattle.nodes.proofs.draft.Draft.named.Goals as goal
 
 pub loop-node-init : goal.loop-node-init
-loop-node-init c = λ n. no_marks 3074 n
+loop-node-init c = λ n. get_or-copies 3074 n _
 
 pub spread-requires : goal.spread-requires
 spread-requires c =
