@@ -3,7 +3,7 @@
 
 #[cfg(test)]
 mod tests {
-    use charts::{Chart, ChartRefusal, number_classes, walk};
+    use charts::{Chart, ChartRefusal, Recoding, number_classes, walk};
     use nodes::NodeChart;
 
     fn number(r: Result<(), ChartRefusal>) -> u8 {
@@ -13,6 +13,21 @@ mod tests {
         }
     }
 
+    fn recode(
+        chart: &mut NodeChart,
+        bound: usize,
+        codes: usize,
+        places: &[usize],
+        class_of: &[usize],
+    ) -> u8 {
+        number(chart.recode(&Recoding {
+            bound,
+            codes,
+            places,
+            class_of,
+        }))
+    }
+
     fn value_at(chart: &NodeChart, a: usize) -> bool {
         chart.end(walk(chart, chart.count(), a))
     }
@@ -20,7 +35,7 @@ mod tests {
     // Two arguments more in front: 1 where both are 1, and else what the chart means.
     fn with_a_pair(chart: &mut NodeChart) -> u8 {
         let top = chart.top();
-        number(chart.recode(0, 2, &[top, 1], &[0, 0, 0, 1]))
+        recode(chart, 0, 2, &[top, 1], &[0, 0, 0, 1])
     }
 
     // x1 x2 + x3 x4 + x5 x6 has 6 nodes in this order, and 14 in the order x1 x3 x5 x2 x4 x6.
@@ -44,7 +59,7 @@ mod tests {
     fn the_comparison(rt: HostRuntime) {
         let mut chart = NodeChart::empty();
         let equal = [1, 0, 0, 0, 0, 1, 0, 0, 0, 0, 1, 0, 0, 0, 0, 1];
-        assert_eq!(rt; number(chart.recode(0, 4, &[0, 1], &equal)), 0);
+        assert_eq!(rt; recode(&mut chart, 0, 4, &[0, 1], &equal), 0);
         assert_eq!(rt; chart.size(), 9);
         let mut strip = [0; 4];
         assert_eq!(rt; number_classes(&chart, 2, &mut strip), Some(4));
@@ -66,7 +81,7 @@ mod tests {
         assert_eq!(rt; chart.step(0, usize::MAX, true), 0);
         assert_eq!(rt; chart.step(2, 77, true), 77);
         assert!(rt; !chart.end(77) && chart.end(1));
-        assert_eq!(rt; number(chart.recode(3, 0, &[0], &[0])), 11);
-        assert_eq!(rt; number(chart.recode(0, 1, &[0], &[0, 1])), 11);
+        assert_eq!(rt; recode(&mut chart, 3, 0, &[0], &[0]), 11);
+        assert_eq!(rt; recode(&mut chart, 0, 1, &[0], &[0, 1]), 11);
     }
 }

@@ -1,7 +1,7 @@
 -- Drafts: what the tests of one node more tell, and what a draft is after it.
 use Rattle.std.proofs.Common.{◌≡◌, ℕ, ◌+◌, ◌-◌, ◌<◌, ◌≤◌, true, false, ◌||◌, eqb, ltb, List, [], ◌∷◌, ◌++◌, length, get_or, take, Ok, Err, Decides, Result, sym, refl, ap, ◌∙◌, subst, inl, inr, arith, MatchResult}
 use Rattle.std.specs.List.{HoldsAt}
-use Rattle.std.proofs.lemmas.List.{get_or_default, get_or-take, length-take-le, take_more_set}
+use Rattle.std.proofs.lemmas.List.{get_or_default, length-take-le, take_more_set}
 use Rattle.std.proofs.lemmas.Bool.{and_parts, and_from, or_left, or_right, or_from, cases_Bool, cond-true, cond-false, eqb-true, eq-eqb, ne_eqb, ltb-true}
 use Rattle.std.proofs.lemmas.Bool.Decides.{Decides-by_or}
 use Rattle.nodes.specs.declared.node.Node.{Node}
@@ -9,12 +9,11 @@ use Rattle.nodes.specs.declared.draft.Draft.{Draft}
 use Rattle.nodes.specs.declared.store.Store.{Store}
 use Rattle.nodes.specs.declared.store.Full.{Full}
 use Rattle.nodes.specs.Diagrams.{at, blank, level, Ordered, Proper, Single}
-use Rattle.nodes.specs.Stores.{Indexed, Absent, Did, dropped, there, pushed, Made}
+use Rattle.nodes.specs.Stores.{Absent, Did, dropped, there, pushed}
 use Rattle.nodes.specs.Drafts.{below, in_place, same_node, among, fits, misplaced, repeated, verdict}
 use Rattle.nodes.proofs.Canonical.{same}
 use Rattle.nodes.proofs.Indexes.{at_old, at_new}
-use Rattle.nodes.proofs.Rebuilding.{did-length}
-use Rattle.nodes.proofs.Grown.{Agree, Above, level-agree, ordered_grown, reduced_grown}
+use Rattle.nodes.proofs.Grown.{Agree, Above, level-agree, ordered_grown, reduced_grown, front-agree}
 
 -- the test for one node among others
 same_decides : (y x : Node) → Decides (same_node x y) (x ≡ y)
@@ -35,11 +34,8 @@ module _ (xs : List Node) (c : ℕ) (room : c ≤ length xs) where
   pub length_draft : length (take c xs) ≡ c
   length_draft = length-take-le c xs room
 
-  pub at_draft : Agree xs (take c xs) c
-  at_draft n two less = get_or-take c xs (n - 2) blank (omega arith)
-
   pub level_draft : (m n : ℕ) → n < c + 2 → level m (take c xs) n ≡ level m xs n
-  level_draft m n less = level-agree xs (take c xs) c at_draft m n less
+  level_draft m n less = level-agree xs (take c xs) c (front-agree xs c room) m n less
 
   -- a child in its place
   below_parts : (m v n : ℕ) → below m (take c xs) v n ≡ true → (n < c + 2) × (v < level m xs n)
@@ -61,7 +57,7 @@ module _ (xs : List Node) (c : ℕ) (room : c ≤ length xs) where
   there-among : (y : Node) (n : ℕ) → 2 ≤ n → n < c + 2 → at xs n ≡ y → among y (take c xs) ≡ true
   there-among y n two less e =
       let k : n - 2 < length (take c xs) = omega (arith, length_draft) in
-      (among_decides y (take c xs)).1 (n - 2, k, λ d. get_or_default (take c xs) (n - 2) d blank k ∙ at_draft n two less ∙ e)
+      (among_decides y (take c xs)).1 (n - 2, k, λ d. get_or_default (take c xs) (n - 2) d blank k ∙ front-agree xs c room n two less ∙ e)
 
   -- and one that is not
   absent_among : (y : Node) → Absent xs c y → among y (take c xs) ≡ false
@@ -72,7 +68,7 @@ module _ (xs : List Node) (c : ℕ) (room : c ≤ length xs) where
         let k = w.0 in
         let less : k < c = omega (arith, w.1, length_draft) in
         let i : k + 2 - 2 ≡ k = omega arith in
-        absurd (none (k + 2) (omega arith) (omega arith) (sym (at_draft (k + 2) (omega arith) (omega arith)) ∙ ap (λ (j : ℕ). get_or (take c xs) j blank) i ∙ w.2 blank))
+        absurd (none (k + 2) (omega arith) (omega arith) (sym (front-agree xs c room (k + 2) (omega arith) (omega arith)) ∙ ap (λ (j : ℕ). get_or (take c xs) j blank) i ∙ w.2 blank))
   ]
 
 -- the three verdicts
@@ -91,23 +87,12 @@ stored s = take s.count s.nodes
 
 -- what a draft keeps of its store
 pub record Sound (m : ℕ) (s : Store) : Type 0 where
-  pub long : length s.nodes ≡ 1024
-  pub room : s.count ≤ 1024
-  pub index : Indexed s.nodes s.heads s.nexts s.count
   pub ordered : Ordered m s.nodes s.count
   pub proper : Proper s.nodes s.count
   pub single : Single s.nodes s.count
 
 pub sound_of : (d : Draft) → Sound d.arity d.store
-sound_of d =
-    record {
-      long = d.long;
-      room = d.room;
-      index = record { head_all = d.last; head_of = d.heads; next_all = λ n a two less top e. d.nearest n a (two, less, top, e); next_of = λ n two top pos. d.links n (two, top, pos) };
-      ordered = d.ordered;
-      proper = d.proper;
-      single = d.single;
-    }
+sound_of d = record { ordered = d.ordered; proper = d.proper; single = d.single }
 
 -- what came of a node in its place: it repeats, and nothing changed, or it is the last of the nodes
 pub data Came (m : ℕ) (s t : Store) (y : Node) (n : ℕ) : Type 0 where
@@ -116,7 +101,7 @@ pub data Came (m : ℕ) (s t : Store) (y : Node) (n : ℕ) : Type 0 where
 
 module _ (m : ℕ) (s t : Store) (y : Node) (o : Sound m s) (ok : in_place m (stored s) y ≡ true) where
   within : s.count ≤ length s.nodes
-  within = omega (arith, o.long, o.room)
+  within = omega arith
 
   pub came : (n : ℕ) → Did s t y n → Came m s t y n
   came n (dropped e q r) =
@@ -126,10 +111,10 @@ module _ (m : ℕ) (s t : Store) (y : Node) (o : Sound m s) (ok : in_place m (st
   came n (pushed room count nodes apart absent r) =
       let more : stored t ≡ take (s.count + 1) t.nodes = ap (λ (k : ℕ). take k t.nodes) count in
       last r (verdict-fits m (stored s) y ok apart (absent_among s.nodes s.count within y absent)) (omega (arith, length_draft s.nodes s.count within))
-      (more ∙ ap (λ (xs : List Node). take (s.count + 1) xs) nodes ∙ take_more_set s.nodes s.count y (omega (arith, o.long)))
+      (more ∙ ap (λ (xs : List Node). take (s.count + 1) xs) nodes ∙ take_more_set s.nodes s.count y (omega arith))
 
-  kept-did : (n : ℕ) → Made s t y n → Sound m t
-  kept-did n mk = go mk.did
+  kept-did : (n : ℕ) → Did s t y n → Sound m t
+  kept-did n = go
     where
       same_store : t ≡ s → Sound m t
       same_store e = let P : Store → Type 0 = λ z. Sound m z in subst P (sym e) o
@@ -139,15 +124,15 @@ module _ (m : ℕ) (s t : Store) (y : Node) (o : Sound m s) (ok : in_place m (st
       go (there e apart two less is) = same_store e
       go (pushed room count nodes apart absent r) =
           let g : Agree s.nodes t.nodes s.count = λ i two less. ap (λ (z : List Node). at z i) nodes ∙ at_old s.nodes s.count y i two less in
-          let new : at t.nodes (s.count + 2) ≡ y = ap (λ (z : List Node). at z (s.count + 2)) nodes ∙ at_new s.nodes s.count y (s.count + 2) (omega (arith, o.long)) refl in
+          let new : at t.nodes (s.count + 2) ≡ y = ap (λ (z : List Node). at z (s.count + 2)) nodes ∙ at_new s.nodes s.count y (s.count + 2) (omega arith) refl in
           let od = ordered_grown m s.count s.nodes t.nodes y o.ordered g new (above_draft s.nodes s.count within m y ok) in
           let rd = reduced_grown s.count s.nodes t.nodes y (o.proper, o.single) g new apart absent in
           let P : ℕ → Type 0 = λ k. Ordered m t.nodes k × Proper t.nodes k × Single t.nodes k in
           let p : P t.count = subst P (sym count) (od, rd.0, rd.1) in
-          record { long = did-length s t y n mk.did o.long; room = omega arith; index = mk.index; ordered = p.0; proper = p.1; single = p.2 }
+          record { ordered = p.0; proper = p.1; single = p.2 }
 
   -- what a draft keeps of its store stays
-  pub kept : (r : Result ℕ Full) → MatchResult r (λ n. Made s t y n) (λ _. (t ≡ s) × (s.count ≡ 1024) × (y.low ≡ y.high → ⊥) × Absent s.nodes s.count y) → Sound m t
+  pub kept : (r : Result ℕ Full) → MatchResult r (λ n. Did s t y n) (λ _. (t ≡ s) × (s.count ≡ 1024) × (y.low ≡ y.high → ⊥) × Absent s.nodes s.count y) → Sound m t
   kept (Ok n) h = kept-did n h
   kept (Err f) h = let P : Store → Type 0 = λ z. Sound m z in subst P (sym h.0) o
 

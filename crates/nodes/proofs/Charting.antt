@@ -1,5 +1,5 @@
 -- Node charts: their diagrams, their columns, and what it is to take on a function.
-use Rattle.std.proofs.Common.{◌≡◌, ℕ, zero, suc, ◌+◌, ◌-◌, ◌^◌, ◌<◌, ◌≤◌, true, false, eqb, List, map, length, get_or, sym, refl, ap, ◌∙◌, subst, inl, inr, arith, pow_mono}
+use Rattle.std.proofs.Common.{◌≡◌, ℕ, zero, suc, ◌+◌, ◌-◌, ◌^◌, ◌<◌, ◌≤◌, true, false, eqb, List, map, length, get_or, take, sym, refl, ap, ◌∙◌, subst, inl, inr, arith, pow_mono}
 use Rattle.std.proofs.lemmas.Bool.{cases_lt, cases_eq, cases_Bool, eq-eqb, ne_eqb}
 use Rattle.std.proofs.lemmas.List.{get_or-map}
 use Rattle.functions.specs.Functions.{Fn, bit, rows, tree, recoded}
@@ -8,6 +8,7 @@ use Rattle.functions.proofs.Values.{same-sound, same_self}
 use Rattle.functions.proofs.Rows.{rows_same}
 use Rattle.charts.specs.Changes.{whole, Became, Recodable}
 use Rattle.nodes.specs.declared.node.Node.{Node}
+use Rattle.std.proofs.lemmas.List.{get_or-take, length-take-le}
 use Rattle.nodes.specs.declared.node_chart.NodeChart.{NodeChart}
 use Rattle.nodes.specs.Diagrams.{mean, level, Diagram}
 use Rattle.nodes.specs.Sizes.{size, Small}
@@ -116,25 +117,30 @@ became s t m f d = record {
 pub code_room : (j : ℕ) → j ≤ 4 → 2 ^ j ≤ 16
 code_room j h = pow_mono h
 
-module _ (s : NodeChart) (b j : ℕ) (places class_of : List ℕ) (ok : Recodable s.arity b j (length places) class_of) (width : ℕ) (is : width ≡ 2 ^ j) (leaves : List ℕ)
-    (front : (q : ℕ) → q < width → get_or leaves q 0 ≡ seen s.nodes s.count b (get_or places (get_or class_of q 0) 0)) (rest : (q : ℕ) → width ≤ q → get_or leaves q 0 ≡ 0) where
+-- the codes' leaves, whose numbers are in front in a list of 16
+pub record Coded (f : ℕ → ℕ) (class_of : List ℕ) (j : ℕ) (leaves : List ℕ) : Type 0 where
+  pub many : length leaves ≡ 2 ^ j
+  pub few : length leaves ≤ 16
+  pub each : (q : ℕ) → q < length leaves → get_or leaves q 0 ≡ f (get_or class_of q 0)
+
+pub coded : (f : ℕ → ℕ) (class_of : List ℕ) (j w : ℕ) → w ≡ 2 ^ j → j ≤ 4 → (leaves : List ℕ) → length leaves ≡ 16 → ((q : ℕ) → q < 2 ^ j → get_or leaves q 0 ≡ f (get_or class_of q 0)) → Coded f class_of j (take w leaves)
+coded f class_of j w we jl leaves len each =
+    let room = code_room j jl in
+    let long = length-take-le w leaves (omega arith) in
+    record { many = long ∙ we; few = omega arith; each = λ q less. get_or-take w leaves q 0 (omega arith) ∙ each q (omega arith) }
+
+module _ (s : NodeChart) (b j : ℕ) (places class_of : List ℕ) (ok : Recodable s.arity b j (length places) class_of) (leaves : List ℕ) (codes : Coded (λ z. seen s.nodes s.count b (get_or places z 0)) class_of j leaves) where
   -- each leaf is there at the depth b
-  leaf_there : (q : ℕ) → q < 16 → (get_or leaves q 0 < s.count + 2) × (b ≤ level s.arity s.nodes (get_or leaves q 0))
-  leaf_there q h =
-      let to : (n : ℕ) → get_or leaves q 0 ≡ n → There s.nodes s.count b n → (get_or leaves q 0 < s.count + 2) × (b ≤ level s.arity s.nodes (get_or leaves q 0)) =
-      λ n e t. there-level s.arity s.count s.nodes b (get_or leaves q 0) ok.bound (subst (There s.nodes s.count b) (sym e) t) in
-      elim (cases_lt q width) [
-        | inl l ↦ to _ (front q l) (seen_there s.nodes s.count b (get_or places (get_or class_of q 0) 0))
-        | inr l ↦ to 0 (rest q l) (end (omega arith))
-      ]
+  leaf_there : (q : ℕ) → q < length leaves → (get_or leaves q 0 < s.count + 2) × (b ≤ level s.arity s.nodes (get_or leaves q 0))
+  leaf_there q h = there-level s.arity s.count s.nodes b (get_or leaves q 0) ok.bound (subst (There s.nodes s.count b) (sym (codes.each q h)) (seen_there s.nodes s.count b (get_or places (get_or class_of q 0) 0)))
 
   -- the leaves mean the columns of the classes
   leaves-mean : rows j (λ q. mean s.nodes (s.arity - b) b (get_or leaves q 0)) ≡ recoded j (map (place_column s b) places) (λ q. get_or class_of q 0)
   leaves-mean =
       rows_same j (λ q. mean s.nodes (s.arity - b) b (get_or leaves q 0)) (λ q. get_or (map (place_column s b) places) (get_or class_of q 0) (bit false))
-      (λ q l. ap (mean s.nodes (s.arity - b) b) (front q (omega arith)) ∙ sym (get_or-map (place_column s b) places (get_or class_of q 0) 0 (bit false) (ok.placed q l)))
+      (λ q l. ap (mean s.nodes (s.arity - b) b) (codes.each q (omega (arith, codes.many))) ∙ sym (get_or-map (place_column s b) places (get_or class_of q 0) 0 (bit false) (ok.placed q l)))
 
-  module _ (raw : List Node) (shifts : Shifts s.nodes b j (s.count + 2) raw) (e : ℕ) (all : b < s.arity → e ≡ s.count) (none : b ≡ s.arity → e ≡ 0) where
+  module _ (raw : List Node) (shifts : b < s.arity → Shifts s.nodes b j (s.count + 2) raw) (e : ℕ) (all : b < s.arity → e ≡ s.count) (none : b ≡ s.arity → e ≡ 0) where
     -- the moved nodes are ready for the new variables
     pub ready : Leaves raw e (s.arity - b + j) j leaves
     ready = leaves_ready s.arity s.count s.nodes s.ordered b j ok.bound raw shifts leaves leaf_there e all none
@@ -147,5 +153,5 @@ module _ (s : NodeChart) (b j : ℕ) (places class_of : List ℕ) (ok : Recodabl
     ]
 
     -- what the top of the new nodes means
-    pub recoded_is : (ys : List Node) (c root : ℕ) → Topped raw e ys c (s.arity - b + j) j leaves j 0 root → mean ys (s.arity - b + j) 0 root ≡ recoded j (map (place_column s b) places) (λ q. get_or class_of q 0)
-    recoded_is ys c root t = recoded-mean s.arity s.count s.nodes s.ordered b j ok.bound raw shifts leaves leaf_there (code_room j ok.few) e ys c root t ∙ leaves-mean
+    pub recoded_is : (ys : List Node) (c root : ℕ) → Topped raw e ys c (s.arity - b + j) j leaves 0 root → mean ys (s.arity - b + j) 0 root ≡ recoded j (map (place_column s b) places) (λ q. get_or class_of q 0)
+    recoded_is ys c root t = recoded-mean s.arity s.count s.nodes s.ordered b j ok.bound raw shifts leaves leaf_there codes.many e ys c root t ∙ leaves-mean

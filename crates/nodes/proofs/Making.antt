@@ -106,8 +106,8 @@ pub record Answer (m : ℕ) (xs : List Node) (c : ℕ) (ys : List Node) (c' : �
   pub more : c ≤ c'
 
 -- what each answer keeps and means
-pub made : (m : ℕ) (f : Fn) (s t : Store) (node : Node) (r : ℕ) → length s.nodes ≡ 1024 → State m f s.nodes s.count → (k : ℕ) → k + suc node.var ≡ m → Above m s.nodes s.count node → Inside (fork (mean s.nodes k (suc node.var) node.low) (mean s.nodes k (suc node.var) node.high)) f → Did s t node r → State m f t.nodes t.count × Answer m s.nodes s.count t.nodes t.count k node r
-made m f s t node r len st k km above inside (dropped e q n) =
+pub made : (m : ℕ) (f : Fn) (s t : Store) (node : Node) (r : ℕ) → State m f s.nodes s.count → (k : ℕ) → k + suc node.var ≡ m → Above m s.nodes s.count node → Inside (fork (mean s.nodes k (suc node.var) node.low) (mean s.nodes k (suc node.var) node.high)) f → Did s t node r → State m f t.nodes t.count × Answer m s.nodes s.count t.nodes t.count k node r
+made m f s t node r st k km above inside (dropped e q n) =
     let P : Store → Type 0 = λ z. State m f z.nodes z.count × Answer m s.nodes s.count z.nodes z.count k node r in
     let lower : node.var < level m s.nodes r = let Q : ℕ → Type 0 = λ z. node.var < level m s.nodes z in subst Q (sym n) above.low-later in
     let a : mean s.nodes (suc k) node.var r ≡ fork (mean s.nodes k (suc node.var) r) (mean s.nodes k (suc node.var) r) = mean_passes m s.nodes k node.var r lower in
@@ -119,7 +119,7 @@ made m f s t node r len st k km above inside (dropped e q n) =
       st,
       record { there_is = omega (arith, above.low-there); later = omega arith; means = d; agree = λ i two less. refl; more = omega arith },
     )
-made m f s t node r len st k km above inside (there e apart two less is) =
+made m f s t node r st k km above inside (there e apart two less is) =
     let P : Store → Type 0 = λ z. State m f z.nodes z.count × Answer m s.nodes s.count z.nodes z.count k node r in
     let v : (at s.nodes r).var ≡ node.var = ap (λ (z : Node). z.var) is in
     subst P (sym e) (
@@ -132,7 +132,7 @@ made m f s t node r len st k km above inside (there e apart two less is) =
         more = omega arith;
       },
     )
-made m f s t node r len st k km above inside (pushed room count nodes apart absent n) =
+made m f s t node r st k km above inside (pushed room count nodes apart absent n) =
     let g : Agree s.nodes t.nodes s.count = λ i two less. ap (λ (z : List Node). at z i) nodes ∙ at_old s.nodes s.count node i two less in
     let new : at t.nodes (s.count + 2) ≡ node = ap (λ (z : List Node). at z (s.count + 2)) nodes ∙ at_new s.nodes s.count node (s.count + 2) (omega arith) refl in
     let st' : State m f t.nodes (s.count + 1) = grow m f s.nodes s.count st node k km above inside apart absent t.nodes g new in

@@ -1,14 +1,16 @@
 -- The nodes that others name, and the smallest that none names.
-use Rattle.std.proofs.Common.{◌≡◌, ℕ, zero, suc, ◌+◌, ◌-◌, ◌<◌, ◌≤◌, Bool, true, false, cond, ◌||◌, eqb, ◌⊎◌, List, [], ◌∷◌, ◌++◌, length, get_or, take, drop, Some, None, Decides, Option, sym, refl, ap, ◌∙◌, subst, inl, inr, ⊎_elim, arith}
-use Rattle.std.specs.List.{HoldsAt}
+use Rattle.std.proofs.Common.{◌≡◌, ℕ, zero, suc, ◌+◌, ◌-◌, ◌<◌, ◌≤◌, Bool, true, false, cond, not, ◌||◌, eqb, ◌⊎◌, List, [], ◌∷◌, ◌++◌, length, get_or, take, drop, Some, None, Decides, Option, sym, refl, ap, ◌∙◌, subst, inl, inr, ⊎_elim, arith}
+use Rattle.std.specs.List.{HoldsAt, find, range_with_len}
 use Rattle.std.proofs.lemmas.List.{at_drop_more, at_drop_all, drop_all, drop_more, get_or-drop, get_or-take, length-drop, length-take-le, take-append-drop, take_more}
 use Rattle.std.proofs.lemmas.Bool.{cases_Bool, cases_lt, cond-true, cond-false, eqb-true, eq-eqb, or_cases, or_left, or_right, true≢false}
 use Rattle.std.proofs.lemmas.Bool.Decides.{Decides-by_or, Decides-or, Decides-eqb}
+use Rattle.std.proofs.Math.Bool.{or_assoc, or-false}
 use Rattle.nodes.specs.declared.node.Node.{Node}
 use Rattle.nodes.specs.Diagrams.{at, blank, Ordered, Reach, start, to_low, to_high, Reached}
 use Rattle.nodes.specs.Marks.{Marked, Spread}
 use Rattle.nodes.specs.Drafts.{names, unnamed, top}
-use Rattle.nodes.proofs.Adding.{length_draft, at_draft}
+use Rattle.nodes.proofs.Grown.{front-agree}
+use Rattle.nodes.proofs.Adding.{length_draft}
 
 -- n is a child of y
 abbrev Parent : ℕ → Node → Type 0
@@ -21,19 +23,11 @@ child n y = eqb y.low n || eqb y.high n
 names_decides : (n : ℕ) (ys : List Node) → Decides (names n ys) ((k : ℕ) × (k < length ys) × HoldsAt (Parent n) ys k)
 names_decides n = Decides-by_or (child n) (Parent n) (names n) (λ x. Decides-or _ _ (Decides-eqb x.low n) (Decides-eqb x.high n)) refl (λ _ _. refl)
 
-or_joined : (a b c : Bool) → (a || (b || c)) ≡ ((a || b) || c)
-or_joined true b c = refl
-or_joined false b c = refl
-
 names-append : (n : ℕ) (xs ys : List Node) → names n (xs ++ ys) ≡ (names n xs || names n ys)
 names-append n [] ys = refl
-names-append n (x ∷ xs) ys = let p = child n x in ap (λ (b : Bool). p || b) (names-append n xs ys) ∙ or_joined p (names n xs) (names n ys)
+names-append n (x ∷ xs) ys = let p = child n x in ap (λ (b : Bool). p || b) (names-append n xs ys) ∙ sym (or_assoc p (names n xs) (names n ys))
 
 -- the marks of two children more
-or-false : (a : Bool) → (a || false) ≡ a
-or-false true = refl
-or-false false = refl
-
 spread_names : (old new : List Bool) (y : Node) → Spread old new y → (n : ℕ) → get_or new n false ≡ (get_or old n false || child n y)
 spread_names old new y s n = elim (cases_Bool (get_or old n false || child n y)) [
   | inl e ↦
@@ -48,11 +42,12 @@ spread_names old new y s n = elim (cases_Bool (get_or old n false || child n y))
   ]
 ]
 
-pub names_more : (xs : List Node) (i : ℕ) → i < length xs → (old new : List Bool) → Spread old new (get_or xs i blank) → ((n : ℕ) → get_or old n false ≡ names n (take i xs)) → (n : ℕ) → get_or new n false ≡ names n (take (i + 1) xs)
-names_more xs i h old new s e n =
+pub names_more : (xs : List Node) (c i : ℕ) → i < c → c ≤ length xs → (old new : List Bool) → Spread old new (get_or (take c xs) i blank) → ((n : ℕ) → get_or old n false ≡ names n (take i xs)) → (n : ℕ) → get_or new n false ≡ names n (take (i + 1) xs)
+names_more xs c i less room old new s e n =
     let y = get_or xs i blank in
     let p = child n (get_or xs i blank) in
-    spread_names old new y s n ∙ ap (λ (b : Bool). b || p) (e n) ∙ ap (λ (b : Bool). names n (take i xs) || b) (sym (or-false p)) ∙ sym (names-append n (take i xs) (y ∷ [])) ∙ sym (ap (names n) (take_more xs i blank h))
+    let h : i < length xs = omega arith in
+    spread_names old new y (subst (λ (z : Node). Spread old new z) (get_or-take c xs i blank less) s) n ∙ ap (λ (b : Bool). b || p) (e n) ∙ ap (λ (b : Bool). names n (take i xs) || b) (sym (or-false p)) ∙ sym (names-append n (take i xs) (y ∷ [])) ∙ sym (ap (names n) (take_more xs i blank h))
 
 -- one node further in the search for the smallest that none names
 pub unnamed-more : (ys : List Node) (n i : ℕ) → i + 1 < length ys → unnamed n (drop i ys) ≡ cond (names n (drop (i + 1) ys)) (unnamed (n + 1) (drop (i + 1) ys)) (Some n)
@@ -80,7 +75,7 @@ module _ (m : ℕ) (xs : List Node) (c : ℕ) (room : c ≤ length xs) (o : Orde
         let k = w.0 in
         let kn : k < n - 1 = omega (arith, w.1, length-take-le (n - 1) (take c xs) (omega arith)) in
         let i : k + 2 - 2 ≡ k = omega arith in
-        let e0 : get_or (take (n - 1) (take c xs)) k blank ≡ at xs (k + 2) = get_or-take (n - 1) ys k blank kn ∙ ap (λ (j : ℕ). get_or ys j blank) (sym i) ∙ at_draft xs c room (k + 2) (omega arith) (omega arith) in
+        let e0 : get_or (take (n - 1) (take c xs)) k blank ≡ at xs (k + 2) = get_or-take (n - 1) ys k blank kn ∙ ap (λ (j : ℕ). get_or ys j blank) (sym i) ∙ front-agree xs c room (k + 2) (omega arith) (omega arith) in
         let p = o (k + 2) (omega arith) (omega arith) in
         let q : Parent n (at xs (k + 2)) = subst (Parent n) e0 (w.2 blank) in
         absurd (⊎_elim (λ (l : (at xs (k + 2)).low ≡ n). omega arith) (λ (l : (at xs (k + 2)).high ≡ n). omega arith) q)
@@ -109,11 +104,18 @@ module _ (m : ℕ) (xs : List Node) (c : ℕ) (room : c ≤ length xs) (o : Orde
       ∙ ap (λ (t : Bool). cond t (unnamed (n + 1) (drop (n - 2 + 1) ys)) (Some n)) (ap (λ (k : ℕ). names n (drop k ys)) j ∙ later m xs c room o n two (omega arith) ∙ e)
       ∙ ap (λ (k : ℕ). cond b (unnamed (n + 1) (drop k ys)) (Some n)) i
 
-  pub turn_on : names n (take c xs) ≡ true → unnamed n (drop (n - 2) (take c xs)) ≡ unnamed (n + 1) (drop (n + 1 - 2) (take c xs))
-  turn_on e = turn true e
+-- the search from n on, by marks on the numbers that the nodes name
+module _ (m : ℕ) (xs : List Node) (c : ℕ) (room : c ≤ length xs) (o : Ordered m xs c) (marks : List Bool) (named : (n : ℕ) → get_or marks n false ≡ names n (take c xs)) where
+  pub find-unnamed : (k n : ℕ) → 2 ≤ n → k ≡ c + 1 - n → find (λ z. not (get_or marks z false)) (range_with_len n k) ≡ unnamed n (drop (n - 2) (take c xs))
+  find-unnamed zero n two e = sym (unnamed-none (take c xs) n (n - 2) (omega (arith, length_draft xs c room)))
+  find-unnamed (suc k) n two e = go (get_or marks n false) refl (find-unnamed k (n + 1) (omega arith) (omega arith))
+    where
+      rest : Option ℕ
+      rest = find (λ z. not (get_or marks z false)) (range_with_len (n + 1) k)
 
-  pub turn_found : names n (take c xs) ≡ false → unnamed n (drop (n - 2) (take c xs)) ≡ Some n
-  turn_found e = turn false e
+      go : (b : Bool) → get_or marks n false ≡ b → rest ≡ unnamed (n + 1) (drop (n + 1 - 2) (take c xs)) → cond (not b) (Some n) rest ≡ unnamed n (drop (n - 2) (take c xs))
+      go true h f = f ∙ sym (turn m xs c room o n two (omega arith) true (sym (named n) ∙ h))
+      go false h f = sym (turn m xs c room o n two (omega arith) false (sym (named n) ∙ h))
 
 -- where there is none, each node but the last has a later one that names it
 named-at : (n : ℕ) (ys : List Node) → unnamed n ys ≡ None → (j : ℕ) → suc j < length ys → names (n + j) (drop (suc j) ys) ≡ true
@@ -144,7 +146,7 @@ module _ (xs : List Node) (c : ℕ) (room : c ≤ length xs) (all : unnamed 2 (t
       let inside : suc (n - 2) + k < c = omega (arith, w.1, length-drop (suc (n - 2)) (take c xs)) in
       let p : ℕ = suc (n - 2) + k + 2 in
       let i : suc (n - 2) + k + 2 - 2 ≡ suc (n - 2) + k = omega arith in
-      let e0 : get_or (drop (suc (n - 2)) (take c xs)) k blank ≡ at xs (suc (n - 2) + k + 2) = get_or-drop (suc (n - 2)) ys k blank ∙ ap (λ (j : ℕ). get_or ys j blank) (sym i) ∙ at_draft xs c room (suc (n - 2) + k + 2) (omega arith) (omega arith) in
+      let e0 : get_or (drop (suc (n - 2)) (take c xs)) k blank ≡ at xs (suc (n - 2) + k + 2) = get_or-drop (suc (n - 2)) ys k blank ∙ ap (λ (j : ℕ). get_or ys j blank) (sym i) ∙ front-agree xs c room (suc (n - 2) + k + 2) (omega arith) (omega arith) in
       (suc (n - 2) + k + 2, omega arith, omega arith, subst (Parent n) e0 (w.2 blank))
 
   come : (f n : ℕ) → c + 1 ≤ n + f → 2 ≤ n → n < c + 2 → Reach xs (c + 1) n

@@ -5,10 +5,11 @@ use Rattle.std.proofs.lemmas.List.{get_or-set_same, get_or-set_other, get_or-rep
 use Rattle.nodes.specs.declared.node.Node.{Node}
 use Rattle.nodes.specs.declared.store.Store.{Store}
 use Rattle.functions.specs.Functions.{Fn, fork}
-use Rattle.nodes.specs.Diagrams.{at, mean, level, Placed, Ordered, Reach, start, to_low, to_high, Diagram}
+use Rattle.nodes.specs.Diagrams.{at, blank, mean, level, Placed, Ordered, Reach, start, to_low, to_high, Diagram}
 use Rattle.nodes.specs.Sizes.{size}
-use Rattle.nodes.specs.Stores.{Absent, Did, dropped, there, pushed}
-use Rattle.nodes.specs.Marks.{Marked, Marks}
+use Rattle.nodes.specs.Stores.{Absent, Did}
+use Rattle.nodes.specs.Marks.{Marked, Marks, renamed}
+use Rattle.nodes.proofs.Indexes.{at-index}
 use Rattle.nodes.proofs.Canonical.{level-end, level-node}
 use Rattle.nodes.proofs.Grown.{Agree, Above, mean-agree, level-agree}
 use Rattle.nodes.proofs.Counting.{part_left, part_right}
@@ -171,11 +172,10 @@ turn_skip m raw marks i xs c new t nay n less w =
     (λ (e : n ≡ i + 2 → ⊥). t n (omega arith) w)
     (cases_eq n (i + 2))
 
--- the node with the new numbers of its children
-abbrev pub renamed : Node → List ℕ → Node
-renamed y new = record { var = y.var; low = get_or new y.low 0; high = get_or new y.high 0 }
-
 module _ (m : ℕ) (raw : List Node) (o : Ordered m raw (length raw)) (root : ℕ) (rc : root < length raw + 2) (marks : List Bool) (ms : Marks raw root 2 marks) (i : ℕ) (il : i < length raw) (here : Marked marks (i + 2)) (new : List ℕ) where
+  named : (y : Node) → y ≡ renamed (get_or raw i blank) new → y ≡ renamed (at raw (i + 2)) new
+  named y e = e ∙ ap (λ (z : Node). renamed z new) (sym (at-index raw i))
+
   module _ (xs : List Node) (c : ℕ) (st : State m (mean raw m 0 root) xs c) (t : Turn m raw marks i xs c new) where
     pub record Ready : Type 0 where
       pub k : ℕ
@@ -207,16 +207,18 @@ module _ (m : ℕ) (raw : List Node) (o : Ordered m raw (length raw)) (root : �
           inside = inside_is (full m raw (i + 2)) _ (mean raw m 0 root) (sym e) (wanted m (length raw) raw o root rc (i + 2) (ms.sound (i + 2) here)).part;
         }
 
-    pub full_up : length xs ≡ c → ((renamed (at raw (i + 2)) new).low ≡ (renamed (at raw (i + 2)) new).high → ⊥) → Absent xs c (renamed (at raw (i + 2)) new) → c + 1 ≤ size (mean raw m 0 root)
-    full_up len apart absent =
+    pub full_up : length xs ≡ c → (y : Node) → y ≡ renamed (get_or raw i blank) new → (y.low ≡ y.high → ⊥) × Absent xs c y → c + 1 ≤ size (mean raw m 0 root)
+    full_up len y e w =
         let r = ready in
-        too_many m (mean raw m 0 root) xs c st (renamed (at raw (i + 2)) new) r.k r.km r.above r.inside apart absent len
+        let P : Node → Type 0 = λ z. (z.low ≡ z.high → ⊥) × Absent xs c z in
+        let q = subst P (named y e) w in
+        too_many m (mean raw m 0 root) xs c st (renamed (at raw (i + 2)) new) r.k r.km r.above r.inside q.0 q.1 len
 
   -- a marked node gets the number that the store answers
-  pub turn_more : (s s' : Store) (r : ℕ) → length s.nodes ≡ 1024 → i + 2 < length new → State m (mean raw m 0 root) s.nodes s.count → Turn m raw marks i s.nodes s.count new → Did s s' (renamed (at raw (i + 2)) new) r → State m (mean raw m 0 root) s'.nodes s'.count × Turn m raw marks (i + 1) s'.nodes s'.count (set new (i + 2) r)
-  turn_more s s' r len room st t did =
+  pub turn_more : (s s' : Store) (r : ℕ) → length raw ≤ 3072 → length new ≡ 3074 → State m (mean raw m 0 root) s.nodes s.count → Turn m raw marks i s.nodes s.count new → (y : Node) → y ≡ renamed (get_or raw i blank) new → Did s s' y r → State m (mean raw m 0 root) s'.nodes s'.count × Turn m raw marks (i + 1) s'.nodes s'.count (set new (i + 2) r) × (length (set new (i + 2) r) ≡ 3074)
+  turn_more s s' r long len st t y e did =
       let rd = ready s.nodes s.count st t in
-      let d = made m (mean raw m 0 root) s s' (renamed (at raw (i + 2)) new) r len st rd.k rd.km rd.above rd.inside did in
+      let d = made m (mean raw m 0 root) s s' (renamed (at raw (i + 2)) new) r st rd.k rd.km rd.above rd.inside (subst (λ (z : Node). Did s s' z r) (named y e) did) in
       let a = d.1 in
       let v = level-node m raw (i + 2) (omega arith) in
       let km = rd.km in
@@ -231,7 +233,7 @@ module _ (m : ℕ) (raw : List Node) (o : Ordered m raw (length raw)) (root : �
         (λ n less w.
             ⊎_elim
             (λ (e : n ≡ i + 2).
-            let q : get_or (set new (i + 2) r) (i + 2) 0 ≡ r = get_or-set_same new (i + 2) r 0 room in
+            let q : get_or (set new (i + 2) r) (i + 2) 0 ≡ r = get_or-set_same new (i + 2) r 0 (omega arith) in
             let P : ℕ → Type 0 = λ z. Stands m raw (i + 2) s'.nodes s'.count z in
             let Q : ℕ → Type 0 = λ z. Stands m raw z s'.nodes s'.count (get_or (set new (i + 2) r) z 0) in
             subst Q (sym e) (subst P (sym q) fresh))
@@ -240,6 +242,7 @@ module _ (m : ℕ) (raw : List Node) (o : Ordered m raw (length raw)) (root : �
             let P : ℕ → Type 0 = λ z. Stands m raw n s'.nodes s'.count z in
             subst P (sym q) (stands_on m raw n s.nodes s.count (get_or new n 0) s'.nodes s'.count st.ordered a.agree a.more (t n (omega arith) w)))
             (cases_eq n (i + 2))),
+        length-set new (i + 2) r ∙ len,
       )
 
 -- the store with no node
@@ -271,15 +274,3 @@ finish m raw o root rc xs c b st s =
       };
       means = e;
     }
-
--- an answer keeps the room
-pub did-count : (s t : Store) (node : Node) (r : ℕ) → Did s t node r → s.count ≤ 1024 → t.count ≤ 1024
-did-count s t node r (dropped e q n) h = let P : Store → Type 0 = λ z. z.count ≤ 1024 in subst P (sym e) h
-did-count s t node r (there e apart two less is) h = let P : Store → Type 0 = λ z. z.count ≤ 1024 in subst P (sym e) h
-did-count s t node r (pushed room count nodes apart absent n) h = omega arith
-
--- and the length
-pub did-length : (s t : Store) (node : Node) (r : ℕ) → Did s t node r → length s.nodes ≡ 1024 → length t.nodes ≡ 1024
-did-length s t node r (dropped e q n) h = let P : Store → Type 0 = λ z. length z.nodes ≡ 1024 in subst P (sym e) h
-did-length s t node r (there e apart two less is) h = let P : Store → Type 0 = λ z. length z.nodes ≡ 1024 in subst P (sym e) h
-did-length s t node r (pushed room count nodes apart absent n) h = ap (λ (z : List Node). length z) nodes ∙ (length-set s.nodes s.count node ∙ h)

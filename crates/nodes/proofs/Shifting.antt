@@ -1,33 +1,43 @@
 -- The nodes below the first variables, moved to where the new variables end.
-use Rattle.std.proofs.Common.{◌≡◌, ℕ, zero, suc, ◌+◌, ◌-◌, ◌^◌, ◌<◌, ◌≤◌, true, false, List, length, get_or, take, set, sym, refl, ap, ◌∙◌, subst, inl, inr, ⊎_elim, arith}
+use Rattle.std.proofs.Common.{◌≡◌, ℕ, zero, suc, ◌+◌, ◌-◌, ◌^◌, ◌<◌, ◌≤◌, true, false, List, length, get_or, set, sym, refl, ap, ◌∙◌, subst, inl, inr, ⊎_elim, arith}
 use Rattle.std.proofs.lemmas.Bool.{cases_lt, cases_eq}
-use Rattle.std.proofs.lemmas.List.{get_or-set_same, get_or-set_other, get_or-take, length-take-le}
+use Rattle.std.proofs.lemmas.List.{get_or-set_same, get_or-set_other}
 use Rattle.nodes.specs.declared.node.Node.{Node}
 use Rattle.functions.specs.Functions.{Fn, rows}
 use Rattle.functions.proofs.Rows.{rows_same}
 use Rattle.nodes.specs.Diagrams.{at, mean, level, down, Placed, Ordered, blank, node}
 use Rattle.nodes.specs.Recodes.{Shift, kept, gone, Shifts, chosen, Leaves, Topped}
 use Rattle.nodes.proofs.Canonical.{level-end, level-node, step, last_end}
-use Rattle.nodes.proofs.Grown.{Agree, mean-agree, ordered-agree, placed}
+use Rattle.nodes.proofs.Grown.{placed}
 use Rattle.nodes.proofs.Swapping.{Downs, down_stands, down_passes}
 
+-- a moved node is the node's
+pub shift_is : (xs : List Node) (b j n : ℕ) (y r : Node) → at xs n ≡ y → (b ≤ y.var → r ≡ node (y.var - b + j) y.low y.high) → (y.var < b → r ≡ blank) → Shift xs b j n r
+shift_is xs b j n y r e k g =
+    let v : (at xs n).var ≡ y.var = ap (λ (z : Node). z.var) e in
+    elim (cases_lt y.var b) [
+      | inl h ↦ gone (omega arith) (g h)
+      | inr h ↦ kept (omega arith) (k h ∙ ap (λ (z : Node). node (z.var - b + j) z.low z.high) (sym e))
+    ]
+
 -- one node more
-pub shifts_more : (xs : List Node) (b j i : ℕ) (ys : List Node) (y : Node) → i < length ys → Shifts xs b j (i + 2) ys → Shift xs b j (i + 2) y → Shifts xs b j (i + 1 + 2) (set ys i y)
-shifts_more xs b j i ys y room s new n two less =
+pub shifts_more : (xs : List Node) (b j i : ℕ) (ys ys' : List Node) (k : ℕ) (y : Node) → k ≡ i → ys' ≡ set ys k y → i < length ys → Shifts xs b j (i + 2) ys → Shift xs b j (i + 2) y → Shifts xs b j (i + 1 + 2) ys'
+shifts_more xs b j i ys ys' k y ki es room s new n two less =
+    let es' : ys' ≡ set ys i y = es ∙ ap (λ (t : ℕ). set ys t y) ki in
     ⊎_elim
     (λ (e : n ≡ i + 2).
     let e' : n - 2 ≡ i = omega arith in
-    let q : at (set ys i y) n ≡ y = ap (λ (t : ℕ). get_or (set ys i y) t blank) e' ∙ get_or-set_same ys i y blank room in
+    let q : at ys' n ≡ y = ap (λ (z : List Node). at z n) es' ∙ ap (λ (t : ℕ). get_or (set ys i y) t blank) e' ∙ get_or-set_same ys i y blank room in
     let P : Node → Type 0 = λ z. Shift xs b j n z in
     let Q : ℕ → Type 0 = λ z. Shift xs b j z y in
     subst P (sym q) (subst Q (sym e) new))
     (λ (e : n ≡ i + 2 → ⊥).
-    let q : at (set ys i y) n ≡ at ys n = get_or-set_other ys i (n - 2) y blank (omega arith) in
+    let q : at ys' n ≡ at ys n = ap (λ (z : List Node). at z n) es' ∙ get_or-set_other ys i (n - 2) y blank (omega arith) in
     let P : Node → Type 0 = λ z. Shift xs b j n z in
     subst P (sym q) (s n two (omega arith)))
     (cases_eq n (i + 2))
 
-module _ (m c : ℕ) (xs : List Node) (o : Ordered m xs c) (b j : ℕ) (bm : b ≤ m) (raw : List Node) (s : Shifts xs b j (c + 2) raw) where
+module _ (m c : ℕ) (xs : List Node) (o : Ordered m xs c) (b j : ℕ) (bm : b ≤ m) (raw : List Node) (s : b < m → Shifts xs b j (c + 2) raw) where
   -- a number that has none of the first b variables keeps its children
   level_shift : (n : ℕ) → n < c + 2 → b ≤ level m xs n → level (m - b + j) raw n ≡ level m xs n - b + j
   level_shift n nc h = ⊎_elim small large (cases_lt n 2)
@@ -40,7 +50,7 @@ module _ (m c : ℕ) (xs : List Node) (o : Ordered m xs c) (b j : ℕ) (bm : b �
       go two (gone lt e) = absurd (omega (arith, level-node m xs n two))
 
       large : 2 ≤ n → level (m - b + j) raw n ≡ level m xs n - b + j
-      large k = go k (s n k nc)
+      large k = let p : Placed m xs n = o n k nc in go k (s (omega (arith, p.0, level-node m xs n k)) n k nc)
 
   -- a step from a moved node
   shift_down : (d d' n : ℕ) → d' ≡ d - b + j → b ≤ d → n < c + 2 → d ≤ level m xs n → Downs raw d' n (down false xs d n) (down true xs d n)
@@ -66,7 +76,7 @@ module _ (m c : ℕ) (xs : List Node) (o : Ordered m xs c) (b j : ℕ) (bm : b �
           (cases_eq (at xs n).var d)
 
       large : 2 ≤ n → Downs raw d' n (down false xs d n) (down true xs d n)
-      large h = go h (s n h nc)
+      large h = let p : Placed m xs n = o n h nc in go h (s (omega (arith, p.0, level-node m xs n h)) n h nc)
 
   -- a moved node means what it meant
   shift_mean : (k d d' n : ℕ) → k + d ≡ m → d' ≡ d - b + j → b ≤ d → n < c + 2 → d ≤ level m xs n → mean raw k d' n ≡ mean xs k d n
@@ -83,7 +93,7 @@ module _ (m c : ℕ) (xs : List Node) (o : Ordered m xs c) (b j : ℕ) (bm : b �
 
   -- the moved nodes are ordered
   ordered_shift : b < m → Ordered (m - b + j) raw c
-  ordered_shift left n two nc = go (s n two nc)
+  ordered_shift left n two nc = go (s left n two nc)
     where
       go : Shift xs b j n (at raw n) → Placed (m - b + j) raw n
       go (gone lt e) =
@@ -96,7 +106,7 @@ module _ (m c : ℕ) (xs : List Node) (o : Ordered m xs c) (b j : ℕ) (bm : b �
           placed (m - b + j) raw n (node ((at xs n).var - b + j) (at xs n).low (at xs n).high) e (omega arith) p.1 p.2 (omega (arith, ll, p.3)) (omega (arith, lh, p.4))
 
   -- the leaves among the first e nodes, which are all where a variable is left, and else none
-  module _ (leaves : List ℕ) (ok : (q : ℕ) → q < 16 → (get_or leaves q 0 < c + 2) × (b ≤ level m xs (get_or leaves q 0))) where
+  module _ (leaves : List ℕ) (ok : (q : ℕ) → q < length leaves → (get_or leaves q 0 < c + 2) × (b ≤ level m xs (get_or leaves q 0))) where
     pub leaves_ready : (e : ℕ) → (b < m → e ≡ c) → (b ≡ m → e ≡ 0) → Leaves raw e (m - b + j) j leaves
     leaves_ready e all none =
         record {
@@ -112,31 +122,16 @@ module _ (m c : ℕ) (xs : List Node) (o : Ordered m xs c) (b j : ℕ) (bm : b �
           later = λ q h. let w = ok q h in omega (arith, level_shift (get_or leaves q 0) w.0 w.1);
         }
 
-    chosen_is : 2 ^ j ≤ 16 → chosen raw (m - b + j) j leaves j 0 ≡ rows j (λ q. mean xs (m - b) b (get_or leaves q 0))
-    chosen_is few =
-        rows_same j (λ q. mean raw (m - b + j - j) j (get_or leaves (0 + q) 0)) (λ q. mean xs (m - b) b (get_or leaves q 0))
+    chosen_is : length leaves ≡ 2 ^ j → chosen raw (m - b + j) j leaves j ≡ rows j (λ q. mean xs (m - b) b (get_or leaves q 0))
+    chosen_is many =
+        rows_same j (λ q. mean raw (m - b + j - j) j (get_or leaves q 0)) (λ q. mean xs (m - b) b (get_or leaves q 0))
         (λ q less.
         let w = ok q (omega arith) in
         let e : m - b + j - j ≡ m - b = omega arith in
-        let z : 0 + q ≡ q = omega arith in
-        ap (λ (t : ℕ). mean raw (m - b + j - j) j (get_or leaves t 0)) z ∙ (ap (λ (t : ℕ). mean raw t j (get_or leaves q 0)) e ∙ shift_mean (m - b) b j (get_or leaves q 0) (omega arith) (omega arith) (omega arith) w.0 w.1))
+        ap (λ (t : ℕ). mean raw t j (get_or leaves q 0)) e ∙ shift_mean (m - b) b j (get_or leaves q 0) (omega arith) (omega arith) (omega arith) w.0 w.1)
 
-    pub recoded-mean : 2 ^ j ≤ 16 → (e : ℕ) (ys : List Node) (c' root : ℕ) → Topped raw e ys c' (m - b + j) j leaves j 0 root → mean ys (m - b + j) 0 root ≡ rows j (λ q. mean xs (m - b) b (get_or leaves q 0))
-    recoded-mean few e ys c' root t =
-        let d : j - j ≡ 0 = omega arith in
-        let e1 : mean ys (m - b + j) 0 root ≡ mean ys (m - b + j - 0) 0 root = ap (λ (z : ℕ). mean ys z 0 root) (omega arith) in
-        let e2 : mean ys (m - b + j - 0) 0 root ≡ mean ys (m - b + j - (j - j)) (j - j) root = ap (λ (z : ℕ). mean ys (m - b + j - z) z root) (sym d) in
-        e1 ∙ (e2 ∙ (t.means ∙ chosen_is few))
-
--- the front of a list of nodes
-front-agree : (c : ℕ) (ys : List Node) → c ≤ length ys → Agree ys (take (c - 0) ys) c
-front-agree c ys h n two less = get_or-take (c - 0) ys (n - 2) blank (omega arith)
-
-pub front_length : (c : ℕ) (ys : List Node) → c ≤ length ys → length (take (c - 0) ys) ≡ c
-front_length c ys h = length-take-le (c - 0) ys (omega arith) ∙ omega arith
-
-pub front_ordered : (m c : ℕ) (ys : List Node) → c ≤ length ys → Ordered m ys c → Ordered m (take (c - 0) ys) (length (take (c - 0) ys))
-front_ordered m c ys h o = let P : ℕ → Type 0 = λ z. Ordered m (take (c - 0) ys) z in subst P (sym (front_length c ys h)) (ordered-agree m c ys (take (c - 0) ys) o (front-agree c ys h))
-
-pub front-mean : (m c : ℕ) (ys : List Node) → c ≤ length ys → Ordered m ys c → (root : ℕ) → root < c + 2 → mean (take (c - 0) ys) m 0 root ≡ mean ys m 0 root
-front-mean m c ys h o root rc = mean-agree m c ys (take (c - 0) ys) o (front-agree c ys h) m 0 root rc
+    pub recoded-mean : length leaves ≡ 2 ^ j → (e : ℕ) (ys : List Node) (c' root : ℕ) → Topped raw e ys c' (m - b + j) j leaves 0 root → mean ys (m - b + j) 0 root ≡ rows j (λ q. mean xs (m - b) b (get_or leaves q 0))
+    recoded-mean many e ys c' root t =
+        let e1 : m - b + j ≡ m - b + j - 0 = omega arith in
+        let e2 : j - 0 ≡ j = omega arith in
+        ap (λ (z : ℕ). mean ys z 0 root) e1 ∙ (t.means ∙ (ap (λ (z : ℕ). chosen raw (m - b + j) j leaves z) e2 ∙ chosen_is many))

@@ -1,30 +1,30 @@
 -- Three nodes for each node mean the function with two variables exchanged.
-use Rattle.std.proofs.Common.{◌≡◌, ℕ, zero, suc, ◌+◌, ◌-◌, ◌*◌, ◌/◌, ◌<◌, ◌≤◌, Bool, true, false, eqb, ◌⊎◌, List, length, get_or, take, set, sym, refl, ap, ◌∙◌, subst, inl, inr, ⊎_elim, arith}
+use Rattle.std.proofs.Common.{◌≡◌, ℕ, zero, suc, ◌+◌, ◌-◌, ◌*◌, ◌/◌, ◌<◌, ◌≤◌, Bool, true, false, eqb, ◌⊎◌, List, length, get_or, set, sym, refl, ap, ◌∙◌, subst, inl, inr, ⊎_elim, arith}
 use Rattle.std.proofs.lemmas.Bool.{cases_lt, cases_eq, eq-eqb, ne_eqb}
-use Rattle.std.proofs.lemmas.List.{get_or-set_same, get_or-set_other, length-set, get_or-take, length-take-le}
+use Rattle.std.proofs.lemmas.List.{get_or-set_same, get_or-set_other, length-set}
 use Rattle.nodes.specs.declared.node.Node.{Node}
 use Rattle.functions.specs.Functions.{Fn, bit, exchanged}
 use Rattle.nodes.specs.Diagrams.{at, down, mean, level, Placed, Ordered, blank, node}
 use Rattle.nodes.specs.Exchanges.{num, Trio, split, lift, plain, Trios}
 use Rattle.nodes.proofs.Canonical.{Look, stands, passes, look, level-end, level-node, step}
-use Rattle.nodes.proofs.Grown.{Agree, down_less, mean-agree, ordered-agree, placed}
+use Rattle.nodes.proofs.Grown.{down_less, placed}
 
-module _ (ys : List Node) (j : ℕ) (a b c : Node) (room : j + 2 < length ys) where
+module _ (ys : List Node) (j k l : ℕ) (a b c : Node) (kj : k ≡ j + 1) (lk : l ≡ k + 1) (room : l < length ys) (ys' : List Node) (e : ys' ≡ set (set (set ys j a) k b) l c) where
   -- the entries after three writes
-  three_below : (q : ℕ) → q < j → get_or (set (set (set ys j a) (j + 1) b) (j + 2) c) q blank ≡ get_or ys q blank
-  three_below q h = get_or-set_other (set (set ys j a) (j + 1) b) (j + 2) q c blank (omega arith) ∙ (get_or-set_other (set ys j a) (j + 1) q b blank (omega arith) ∙ get_or-set_other ys j q a blank (omega arith))
+  three-at : (q : ℕ) → get_or ys' q blank ≡ get_or (set (set (set ys j a) k b) l c) q blank
+  three-at q = ap (λ (z : List Node). get_or z q blank) e
 
-  three_a : (q : ℕ) → q ≡ j → get_or (set (set (set ys j a) (j + 1) b) (j + 2) c) q blank ≡ a
-  three_a q h = get_or-set_other (set (set ys j a) (j + 1) b) (j + 2) q c blank (omega arith) ∙ (get_or-set_other (set ys j a) (j + 1) q b blank (omega arith) ∙ (ap (λ (t : ℕ). get_or (set ys j a) t blank) h ∙ get_or-set_same ys j a blank (omega arith)))
+  three_below : (q : ℕ) → q < j → get_or ys' q blank ≡ get_or ys q blank
+  three_below q h = three-at q ∙ (get_or-set_other (set (set ys j a) k b) l q c blank (omega arith) ∙ (get_or-set_other (set ys j a) k q b blank (omega arith) ∙ get_or-set_other ys j q a blank (omega arith)))
 
-  three_b : (q : ℕ) → q ≡ j + 1 → get_or (set (set (set ys j a) (j + 1) b) (j + 2) c) q blank ≡ b
-  three_b q h = get_or-set_other (set (set ys j a) (j + 1) b) (j + 2) q c blank (omega arith) ∙ (ap (λ (t : ℕ). get_or (set (set ys j a) (j + 1) b) t blank) h ∙ get_or-set_same (set ys j a) (j + 1) b blank (omega (arith, length-set ys j a)))
+  three_a : (q : ℕ) → q ≡ j → get_or ys' q blank ≡ a
+  three_a q h = three-at q ∙ (get_or-set_other (set (set ys j a) k b) l q c blank (omega arith) ∙ (get_or-set_other (set ys j a) k q b blank (omega arith) ∙ (ap (λ (t : ℕ). get_or (set ys j a) t blank) h ∙ get_or-set_same ys j a blank (omega arith))))
 
-  three_c : (q : ℕ) → q ≡ j + 2 → get_or (set (set (set ys j a) (j + 1) b) (j + 2) c) q blank ≡ c
-  three_c q h = ap (λ (t : ℕ). get_or (set (set (set ys j a) (j + 1) b) (j + 2) c) t blank) h ∙ get_or-set_same (set (set ys j a) (j + 1) b) (j + 2) c blank (omega (arith, length-set ys j a, length-set (set ys j a) (j + 1) b))
+  three_b : (q : ℕ) → q ≡ k → get_or ys' q blank ≡ b
+  three_b q h = three-at q ∙ (get_or-set_other (set (set ys j a) k b) l q c blank (omega arith) ∙ (ap (λ (t : ℕ). get_or (set (set ys j a) k b) t blank) h ∙ get_or-set_same (set ys j a) k b blank (omega (arith, length-set ys j a))))
 
-  three_length : length (set (set (set ys j a) (j + 1) b) (j + 2) c) ≡ length ys
-  three_length = length-set (set (set ys j a) (j + 1) b) (j + 2) c ∙ (length-set (set ys j a) (j + 1) b ∙ length-set ys j a)
+  three_c : (q : ℕ) → q ≡ l → get_or ys' q blank ≡ c
+  three_c q h = three-at q ∙ (ap (λ (t : ℕ). get_or (set (set (set ys j a) k b) l c) t blank) h ∙ get_or-set_same (set (set ys j a) k b) l c blank (omega (arith, length-set ys j a, length-set (set ys j a) k b)))
 
 trio_is : {xs : List Node} {p n : ℕ} {a b c a' b' c' : Node} → a' ≡ a → b' ≡ b → c' ≡ c → Trio xs p n a b c → Trio xs p n a' b' c'
 trio_is {xs} {p} {n} {a} {b} {c} {a'} {b'} {c'} ea eb ec (split v x y z) = split v (ea ∙ x) (eb ∙ y) (ec ∙ z)
@@ -32,19 +32,18 @@ trio_is {xs} {p} {n} {a} {b} {c} {a'} {b'} {c'} ea eb ec (lift v x y z) = lift v
 trio_is {xs} {p} {n} {a} {b} {c} {a'} {b'} {c'} ea eb ec (plain v w x y z) = plain v w (ea ∙ x) (eb ∙ y) (ec ∙ z)
 
 -- the nodes of one node more
-pub trios_more : (xs : List Node) (p i : ℕ) (ys : List Node) (a b c : Node) → length ys ≡ 3072 → i < 1024 → Trios xs p (i + 2) ys → Trio xs p (i + 2) a b c → Trios xs p (i + 1 + 2) (set (set (set ys (3 * i) a) (3 * i + 1) b) (3 * i + 2) c) × (length (set (set (set ys (3 * i) a) (3 * i + 1) b) (3 * i + 2) c) ≡ 3072)
-trios_more xs p i ys a b c len il t new =
-    let room : 3 * i + 2 < length ys = omega arith in (
-      (λ n two less.
-          ⊎_elim
-          (λ (e : n ≡ i + 2).
-          let P : ℕ → Type 0 = λ z. Trio xs p z a b c in
-          trio_is (three_a ys (3 * i) a b c room (num n - 2 - 2) (omega arith)) (three_b ys (3 * i) a b c room (num n - 1 - 2) (omega arith)) (three_c ys (3 * i) a b c room (num n - 2) (omega arith)) (subst P (sym e) new))
-          (λ (e : n ≡ i + 2 → ⊥).
-          trio_is (three_below ys (3 * i) a b c room (num n - 2 - 2) (omega arith)) (three_below ys (3 * i) a b c room (num n - 1 - 2) (omega arith)) (three_below ys (3 * i) a b c room (num n - 2) (omega arith)) (t n two (omega arith)))
-          (cases_eq n (i + 2))),
-      three_length ys (3 * i) a b c room ∙ len,
-    )
+pub trios_more : (xs : List Node) (p i : ℕ) (ys ys1 ys2 ys3 : List Node) (j k l : ℕ) (a b c : Node) → length ys ≡ 3072 → i < 1024 → j ≡ 3 * i → k ≡ j + 1 → l ≡ k + 1 → ys1 ≡ set ys j a → ys2 ≡ set ys1 k b → ys3 ≡ set ys2 l c → Trios xs p (i + 2) ys → Trio xs p (i + 2) a b c → Trios xs p (i + 1 + 2) ys3
+trios_more xs p i ys ys1 ys2 ys3 j k l a b c len il ji kj lk e1 e2 e3 t new =
+    let room : l < length ys = omega arith in
+    let e : ys3 ≡ set (set (set ys j a) k b) l c = e3 ∙ ap (λ (z : List Node). set z l c) (e2 ∙ ap (λ (z : List Node). set z k b) e1) in
+    λ n two less.
+    ⊎_elim
+    (λ (q : n ≡ i + 2).
+    let P : ℕ → Type 0 = λ z. Trio xs p z a b c in
+    trio_is (three_a ys j k l a b c kj lk room ys3 e (num n - 2 - 2) (omega arith)) (three_b ys j k l a b c kj lk room ys3 e (num n - 1 - 2) (omega arith)) (three_c ys j k l a b c kj lk room ys3 e (num n - 2) (omega arith)) (subst P (sym q) new))
+    (λ (q : n ≡ i + 2 → ⊥).
+    trio_is (three_below ys j k l a b c kj lk room ys3 e (num n - 2 - 2) (omega arith)) (three_below ys j k l a b c kj lk room ys3 e (num n - 1 - 2) (omega arith)) (three_below ys j k l a b c kj lk room ys3 e (num n - 2) (omega arith)) (t n two (omega arith)))
+    (cases_eq n (i + 2))
 
 -- where the two values lead
 pub record Downs (xs : List Node) (d n l h : ℕ) : Type 0 where
@@ -308,22 +307,9 @@ module _ (m c : ℕ) (xs : List Node) (o : Ordered m xs c) (p : ℕ) (pm : p + 1
       (cases_eq q (num n - 2))
 
 -- the unreduced diagram of the exchange
-pub record Swapped (m : ℕ) (p : ℕ) (xs : List Node) (root : ℕ) (ys : List Node) : Type 0 where
-  pub long : length ys ≤ 3072
-  pub root-there : num root < length ys + 2
-  pub ordered : Ordered m ys (length ys)
+pub record Swapped (m p : ℕ) (xs : List Node) (c root : ℕ) (ys : List Node) : Type 0 where
+  pub ordered : Ordered m ys (3 * c)
   pub means : mean ys m 0 (num root) ≡ exchanged p (mean xs m 0 root)
 
-pub swapped : (m c : ℕ) (xs : List Node) → Ordered m xs c → (p : ℕ) → p + 1 < m → (raw : List Node) → Trios xs p (c + 2) raw → length raw ≡ 3072 → c ≤ 1024 → (root : ℕ) → root < c + 2 → Swapped m p xs root (take (3 * c) raw)
-swapped m c xs o p pm raw t len room root rc =
-    let ys : List Node = take (3 * c) raw in
-    let l : length ys ≡ 3 * c = length-take-le (3 * c) raw (omega arith) in
-    let g : Agree raw ys (3 * c) = λ n two less. get_or-take (3 * c) raw (n - 2) blank (omega arith) in
-    let o' : Ordered m raw (3 * c) = ordered_raw m c xs o p pm raw t in
-    let P : ℕ → Type 0 = λ z. Ordered m ys z in
-    record {
-      long = omega arith;
-      root-there = omega arith;
-      ordered = subst P (sym l) (ordered-agree m (3 * c) raw ys o' g);
-      means = mean-agree m (3 * c) raw ys o' g m 0 (num root) (omega arith) ∙ swap_mean m c xs o p pm raw t p m 0 root (omega arith) (omega arith) rc (omega arith);
-    }
+pub swapped : (m c : ℕ) (xs : List Node) → Ordered m xs c → (p : ℕ) → p + 1 < m → (raw : List Node) → Trios xs p (c + 2) raw → (root : ℕ) → root < c + 2 → Swapped m p xs c root raw
+swapped m c xs o p pm raw t root rc = record { ordered = ordered_raw m c xs o p pm raw t; means = swap_mean m c xs o p pm raw t p m 0 root (omega arith) (omega arith) rc (omega arith) }

@@ -1,5 +1,6 @@
 pub mod Diagrams
 pub mod Sizes
+pub mod Buckets
 pub mod Stores
 pub mod Marks
 pub mod Exchanges

@@ -1,4 +1,5 @@
 ghost use Rattle.std.specs.Prelude.{◌≡◌, false};
+ghost use Rattle.charts.specs.declared.refusal.ChartRefusal.TheVariants.{DoesNotFit};
 ghost use Rattle.functions.specs.Functions.{bit};
 ghost use Rattle.nodes.specs.Sizes.{size, Small};
 ghost use Rattle.nodes.specs.Laws.{DiagramLaws, NodeChartLaws};
@@ -8,9 +9,10 @@ ghost use Rattle.nodes.specs.NodeLaws.{node_laws};
 use super::exchange::exchange;
 use super::node::Node;
 use super::node_chart::{NodeChart, ROOM};
-use super::places::{child_of, is_one};
+use super::places::is_one;
 use super::recode::redrawn;
-use charts::{Chart, ChartRefusal, recodable};
+use super::store::Full;
+use charts::{Chart, ChartRefusal, Recoding};
 
 impl NodeChart {
     /// The constant 0 of no arguments.
@@ -30,6 +32,14 @@ impl NodeChart {
         ensures { result ≡ size (node_function self.now) }
     {
         self.count
+    }
+}
+
+impl From<Full> for ChartRefusal {
+    ghost from_gives = { λ _ e. e ≡ DoesNotFit };
+
+    fn from(_full: Full) -> ChartRefusal {
+        ChartRefusal::DoesNotFit
     }
 }
 
@@ -53,7 +63,7 @@ impl Chart for NodeChart {
     }
 
     fn top(&self) -> usize {
-        self.root as usize
+        usize::from(self.root)
     }
 
     fn step(&self, depth: usize, place: usize, value: bool) -> usize {
@@ -62,13 +72,13 @@ impl Chart for NodeChart {
         }
         let n = self.number(depth, place);
         if n < 2 {
-            return n as usize;
+            return usize::from(n);
         }
-        let node = self.nodes[n as usize - 2];
-        if node.var as usize == depth {
-            child_of(node, value) as usize
+        let node = self.nodes[usize::from(n) - 2];
+        if usize::from(node.var) == depth {
+            usize::from(node.child(value))
         } else {
-            n as usize
+            usize::from(n)
         }
     }
 
@@ -85,27 +95,15 @@ impl Chart for NodeChart {
         if m < 2 || p > m - 2 {
             return Err(ChartRefusal::OutOfRange);
         }
-        let Ok(chart) = exchange(self, p as u8) else {
-            return Err(ChartRefusal::DoesNotFit);
-        };
-        *self = chart;
+        *self = exchange(self, p as u8)?;
         Ok(())
     }
 
-    fn recode(
-        &mut self,
-        b: usize,
-        j: usize,
-        places: &[usize],
-        class_of: &[usize],
-    ) -> Result<(), ChartRefusal> {
-        if !recodable(self.arity, b, j, places.len(), class_of) {
+    fn recode(&mut self, recoding: &Recoding<usize>) -> Result<(), ChartRefusal> {
+        if !recoding.in_range(self.arity) {
             return Err(ChartRefusal::OutOfRange);
         }
-        let Ok(chart) = redrawn(self, b, j, places, class_of) else {
-            return Err(ChartRefusal::DoesNotFit);
-        };
-        *self = chart;
+        *self = redrawn(self, recoding)?;
         Ok(())
     }
 }

@@ -1,4 +1,5 @@
 ghost use Rattle.std.specs.Prelude.{◌≡◌, ℕ, ◌+◌, ◌<◌, ◌≤◌, false, [], length, MatchOption, slice_index_or};
+ghost use Rattle.nodes.specs.declared.drafting.NodeFlaw.TheVariants.{NoRoom};
 ghost use Rattle.nodes.specs.Diagrams.{node, level};
 ghost use Rattle.nodes.specs.Drafts.{below as is_below, in_place, names, unnamed, top, drafted, Added, Finished};
 
@@ -6,7 +7,7 @@ use super::draft::Draft;
 use super::node::Node;
 use super::node_chart::NodeChart;
 use super::reduce::{SPAN, spread};
-use super::store::empty;
+use super::store::{Full, Store};
 
 /// Why a node was not added.
 #[derive(Clone, Copy, PartialEq, Eq, Debug)]
@@ -17,6 +18,14 @@ pub enum NodeFlaw {
     Repeated,
     /// There are 1,024 nodes.
     NoRoom,
+}
+
+impl From<Full> for NodeFlaw {
+    ghost from_gives = { λ _ e. e ≡ NoRoom };
+
+    fn from(_full: Full) -> NodeFlaw {
+        NodeFlaw::NoRoom
+    }
 }
 
 /// A node, not the last, that no later one names.
@@ -33,7 +42,7 @@ impl Draft {
         if arity > 16 {
             return None;
         }
-        let store = empty();
+        let store = Store::new();
         Some(Draft { store, arity })
     }
 
@@ -53,7 +62,7 @@ impl Draft {
         if n < 2 {
             self.arity
         } else {
-            self.store.nodes[n as usize - 2].var as usize
+            usize::from(self.store.nodes[usize::from(n) - 2].var)
         }
     }
 
@@ -61,7 +70,7 @@ impl Draft {
     fn below(&self, var: u8, n: u16) -> bool
         ensures { result ≡ is_below self.now.arity (drafted self.now) var n }
     {
-        (n as usize) < self.count() + 2 && (var as usize) < self.level(n)
+        usize::from(n) < self.count() + 2 && usize::from(var) < self.level(n)
     }
 
     /// Whether a new node would be in order.
@@ -69,7 +78,7 @@ impl Draft {
         ensures { result ≡ in_place self.now.arity (drafted self.now) node }
     {
         let var = node.var;
-        (var as usize) < self.arity && self.below(var, node.low) && self.below(var, node.high)
+        usize::from(var) < self.arity && self.below(var, node.low) && self.below(var, node.high)
     }
 
     /// Adds a node behind the others, with the number that is 2 more than their count.
@@ -82,10 +91,8 @@ impl Draft {
             return Err(NodeFlaw::Misplaced);
         }
         let fresh = self.store.count + 2;
-        let Ok(number) = self.store.make(node) else {
-            return Err(NodeFlaw::NoRoom);
-        };
-        if (number as usize) < fresh {
+        let number = self.store.make(node)?;
+        if usize::from(number) < fresh {
             return Err(NodeFlaw::Repeated);
         }
         Ok(())
@@ -96,8 +103,8 @@ impl Draft {
         ensures { (n : ℕ) → slice_index_or result n false ≡ names n (drafted self.now) }
     {
         let mut marks = [false; SPAN];
-        for i in 0..self.store.count {
-            spread(&mut marks, self.store.nodes[i]);
+        for node in &self.store.nodes[..self.store.count] {
+            spread(&mut marks, *node);
         }
         marks
     }
@@ -107,12 +114,7 @@ impl Draft {
         ensures { result ≡ unnamed 2 (drafted self.now) }
     {
         let marks = self.named();
-        for n in 2..self.store.count + 1 {
-            if !marks[n] {
-                return Some(n);
-            }
-        }
-        None
+        (2..self.store.count + 1).find(|n| !marks[*n])
     }
 
     /// The number of the last node, or of the end `one` where there is no node.
@@ -120,7 +122,7 @@ impl Draft {
         ensures { result ≡ top (drafted self.now) one }
     {
         match self.store.count {
-            0 => one as u16,
+            0 => u16::from(one),
             count => count as u16 + 1,
         }
     }
@@ -132,14 +134,6 @@ impl Draft {
         if let Some(node) = self.first_unnamed() {
             return Err(Unnamed { node });
         }
-        let nodes = self.store.nodes;
-        let count = self.store.count;
-        let root = self.top(one);
-        Ok(NodeChart {
-            nodes,
-            count,
-            arity: self.arity,
-            root,
-        })
+        Ok(self.store.chart(self.arity, self.top(one)))
     }
 }

@@ -1,4 +1,4 @@
-ghost use Rattle.std.specs.Prelude.{◌≡◌, ◌+◌, ◌<◌};
+ghost use Rattle.std.specs.Prelude.{◌≡◌, ◌+◌, ◌*◌, ◌<◌};
 ghost use Rattle.functions.specs.Functions.{exchanged};
 ghost use Rattle.nodes.specs.Diagrams.{at, down};
 ghost use Rattle.nodes.specs.Exchanges.{num, Trio, Trios};
@@ -6,8 +6,7 @@ ghost use Rattle.nodes.specs.NodeCharts.{node_function, Draws};
 
 use super::node::Node;
 use super::node_chart::NodeChart;
-use super::places::child_of;
-use super::reduce::reduce;
+use super::raw::Raw;
 use super::store::Full;
 
 /// The three nodes that stand for one.
@@ -42,9 +41,9 @@ fn led(chart: &NodeChart, value: bool, var: u8, n: u16) -> u16
     ensures { result ≡ num (down value chart.now.nodes var n) }
 {
     if n > 1 {
-        let node = read(chart, n as usize - 2);
+        let node = read(chart, usize::from(n) - 2);
         if node.var == var {
-            return tripled(child_of(node, value));
+            return tripled(node.child(value));
         }
     }
     tripled(n)
@@ -75,16 +74,18 @@ fn parted(chart: &NodeChart, p: u8, i: usize) -> Three
 }
 
 /// The nodes with `p` and `p` + 1 exchanged, not yet reduced.
-fn spread_out(chart: &NodeChart, p: u8) -> [Node; 3072]
+fn spread_out(chart: &NodeChart, p: u8) -> Raw
     requires { p < 16 }
-    ensures { Trios chart.now.nodes p (chart.now.count + 2) result }
+    ensures arity { result.arity ≡ chart.now.arity }
+    ensures count { result.count ≡ 3 * chart.now.count }
+    ensures trios { Trios chart.now.nodes p (chart.now.count + 2) result.nodes }
 {
-    let mut raw = [Node::new(0, 0, 0); 3072];
+    let mut raw = Raw::new(chart.arity);
     for i in 0..chart.count {
-        let t = parted(chart, p, i);
-        raw[3 * i] = t.a;
-        raw[3 * i + 1] = t.b;
-        raw[3 * i + 2] = t.c;
+        let Three { a, b, c } = parted(chart, p, i);
+        raw.push(a);
+        raw.push(b);
+        raw.push(c);
     }
     raw
 }
@@ -94,6 +95,5 @@ pub(crate) fn exchange(chart: &NodeChart, p: u8) -> Result<NodeChart, Full>
     requires { p + 1 < chart.now.arity }
     ensures { Draws chart.now.arity (exchanged p (node_function chart.now)) result }
 {
-    let raw = spread_out(chart, p);
-    reduce(&raw[0..3 * chart.count], chart.arity, tripled(chart.root))
+    spread_out(chart, p).reduced(tripled(chart.root))
 }

@@ -1,7 +1,6 @@
 //! Charts by reduced ordered diagrams of at most 1,024 nodes.
 #![tactic(auto)]
 
-mod crown;
 mod diagrams;
 mod draft;
 mod drafting;
@@ -9,6 +8,7 @@ mod exchange;
 mod node;
 mod node_chart;
 mod places;
+mod raw;
 mod recode;
 mod reduce;
 mod store;

@@ -1,16 +1,7 @@
 ghost use Rattle.std.specs.Prelude.{◌≡◌, ◌==◌};
-ghost use Rattle.nodes.specs.Diagrams.{child};
 ghost use Rattle.nodes.specs.NodeCharts.{seen};
 
-use super::node::Node;
 use super::node_chart::NodeChart;
-
-/// The child of a node where its variable has the value.
-pub(crate) fn child_of(node: Node, value: bool) -> u16
-    ensures { result ≡ child value node }
-{
-    if value { node.high } else { node.low }
-}
 
 /// Whether a place is the end 1.
 pub(crate) fn is_one(place: usize) -> bool
@@ -24,7 +15,7 @@ impl NodeChart {
     pub(crate) fn number(&self, depth: usize, n: usize) -> u16
         ensures { result ≡ seen self.now.nodes self.now.count depth n }
     {
-        if n < 2 || (n < self.count + 2 && depth <= self.nodes[n - 2].var as usize) {
+        if n < 2 || (n < self.count + 2 && depth <= usize::from(self.nodes[n - 2].var)) {
             n as u16
         } else {
             0

@@ -1,16 +1,16 @@
-ghost use Rattle.std.specs.Prelude.{◌≡◌, ℕ, ◌+◌, ◌-◌, ◌<◌, ◌≤◌, map, length, slice_index, slice_index_or};
+ghost use Rattle.std.specs.Prelude.{◌≡◌, ℕ, ◌+◌, ◌-◌, ◌^◌, ◌<◌, ◌≤◌, map, length, slice_index};
 ghost use Rattle.functions.specs.Functions.{recoded};
 ghost use Rattle.charts.specs.Changes.{Recodable};
-ghost use Rattle.nodes.specs.Diagrams.{node, blank, mean, Ordered};
+ghost use Rattle.nodes.specs.Diagrams.{node, blank};
 ghost use Rattle.nodes.specs.Recodes.{Shifts};
 ghost use Rattle.nodes.specs.NodeCharts.{seen, place_column, Draws};
 
-use super::crown::{Raw, crown};
 use super::node::Node;
 use super::node_chart::NodeChart;
-use super::reduce::reduce;
+use super::raw::Raw;
 use super::store::Full;
 use bits::power;
+use charts::Recoding;
 
 /// The node once `j` variables stand in the place of the first `b`: a blank if its own is one of these.
 fn moved(old: Node, b: u8, j: u8) -> Node
@@ -28,70 +28,45 @@ fn moved(old: Node, b: u8, j: u8) -> Node
 
 /// The nodes once `j` variables stand in the place of the first `b`; none counts if no other is left.
 fn shifted(chart: &NodeChart, b: u8, j: u8) -> Raw
-    requires { j ≤ 4 }
+    requires few { j ≤ 4 }
+    requires front { b ≤ chart.now.arity }
+    requires small { chart.now.arity - b + j ≤ 16 }
+    ensures arity { result.arity ≡ chart.now.arity - b + j }
     ensures all { b < chart.now.arity → result.count ≡ chart.now.count }
     ensures none { b ≡ chart.now.arity → result.count ≡ 0 }
-    ensures shifts { Shifts chart.now.nodes b j (chart.now.count + 2) result.nodes }
+    ensures shifts { b < chart.now.arity → Shifts chart.now.nodes b j (chart.now.count + 2) result.nodes }
 {
-    let mut nodes = [Node::new(0, 0, 0); 1040];
-    for i in 0..chart.count {
-        nodes[i] = moved(chart.nodes[i], b, j);
+    let mut raw = Raw::new(chart.arity - usize::from(b) + usize::from(j));
+    if usize::from(b) < chart.arity {
+        for old in &chart.nodes[..chart.count] {
+            raw.push(moved(*old, b, j));
+        }
     }
-    let count = if b as usize == chart.arity {
-        0
-    } else {
-        chart.count
-    };
-    Raw { nodes, count }
+    raw
 }
 
-/// The numbers of the places of the first `width` codes' classes at depth `b`, and 0 for the other codes.
-fn leaves_of(
-    chart: &NodeChart,
-    b: usize,
-    width: usize,
-    places: &[usize],
-    class_of: &[usize],
-) -> [u16; 16]
-    requires width { width ≤ 16 }
-    requires coded { width ≤ length class_of.now }
-    requires placed { (q : ℕ) → q < width → slice_index_or class_of.now q 0 < length places.now }
-    ensures front { (q : ℕ) → q < width → slice_index result q ≡ seen chart.now.nodes chart.now.count b (slice_index places.now (slice_index_or class_of.now q 0)) }
-    ensures rest { (q : ℕ) → width ≤ q → slice_index result q ≡ 0 }
+/// The number of the place of each code's class, in front of zeros.
+fn leaves_of(chart: &NodeChart, recoding: &Recoding<usize>) -> [u16; 16]
+    requires { Recodable chart.now.arity recoding.now.bound recoding.now.codes (length recoding.now.places.now) recoding.now.class_of.now }
+    ensures { (q : ℕ) → q < 2 ^ recoding.now.codes → slice_index result q ≡ seen chart.now.nodes chart.now.count recoding.now.bound (slice_index recoding.now.places.now (slice_index recoding.now.class_of.now q)) }
 {
+    // Kept: written by index. As a `zip` of `iter_mut` the proof did not close: nothing is known of what it wrote.
     let mut leaves = [0; 16];
-    for q in 0..width {
-        leaves[q] = chart.number(b, places[class_of[q]]);
+    let codes = &recoding.class_of[..power(recoding.codes)];
+    for (q, class) in codes.iter().enumerate() {
+        leaves[q] = chart.number(recoding.bound, recoding.places[*class]);
     }
     leaves
 }
 
-/// The chart of what the root means in nodes that are ordered.
-fn reduced(raw: &Raw, arity: usize, root: u16) -> Result<NodeChart, Full>
-    requires small { arity ≤ 16 }
-    requires long { raw.now.count ≤ 1040 }
-    requires rooted { root < raw.now.count + 2 }
-    requires ordered { Ordered arity raw.now.nodes raw.now.count }
-    ensures { Draws arity (mean raw.now.nodes arity 0 root) result }
+/// The recoded chart, if the function's size is at most 1,024.
+pub(crate) fn redrawn(chart: &NodeChart, recoding: &Recoding<usize>) -> Result<NodeChart, Full>
+    requires { Recodable chart.now.arity recoding.now.bound recoding.now.codes (length recoding.now.places.now) recoding.now.class_of.now }
+    ensures { Draws (chart.now.arity - recoding.now.bound + recoding.now.codes) (recoded recoding.now.codes (map (place_column chart.now recoding.now.bound) recoding.now.places.now) (λ q. slice_index recoding.now.class_of.now q)) result }
 {
-    reduce(&raw.nodes[0..raw.count], arity, root)
-}
-
-/// The chart with `j` variables in the place of the first `b`, if the function's size is at most 1,024.
-pub(crate) fn redrawn(
-    chart: &NodeChart,
-    b: usize,
-    j: usize,
-    places: &[usize],
-    class_of: &[usize],
-) -> Result<NodeChart, Full>
-    requires { Recodable chart.now.arity b j (length places.now) class_of.now }
-    ensures { Draws (chart.now.arity - b + j) (recoded j (map (place_column chart.now b) places.now) (λ q. slice_index_or class_of.now q 0)) result }
-{
-    let width = power(j);
-    let leaves = leaves_of(chart, b, width, places, class_of);
-    let mut raw = shifted(chart, b as u8, j as u8);
-    let arity = chart.arity - b + j;
-    let root = crown(&mut raw, &leaves, arity, j as u8, j as u8, 0, width);
-    reduced(&raw, arity, root)
+    let (b, j) = (recoding.bound as u8, recoding.codes as u8);
+    let leaves = leaves_of(chart, recoding);
+    let mut raw = shifted(chart, b, j);
+    let root = raw.crown(&leaves[..power(recoding.codes)], 0, j);
+    raw.reduced(root)
 }

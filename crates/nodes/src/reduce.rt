@@ -1,11 +1,10 @@
 ghost use Rattle.std.specs.Prelude.{◌≡◌, ◌+◌, ◌<◌, ◌≤◌, false, length, slice_index_or};
-ghost use Rattle.nodes.specs.Diagrams.{mean, Ordered};
-ghost use Rattle.nodes.specs.Marks.{Spread, Down, Marks};
-ghost use Rattle.nodes.specs.NodeCharts.{Draws};
+ghost use Rattle.nodes.specs.Diagrams.{Ordered};
+ghost use Rattle.nodes.specs.Marks.{Spread, renamed};
 
 use super::node::Node;
 use super::node_chart::NodeChart;
-use super::store::{Full, Store, empty};
+use super::store::{Full, Store};
 
 /// The most numbers of an unreduced diagram: two ends, and three nodes for each of a chart's.
 pub(crate) const SPAN: usize = 3074;
@@ -16,27 +15,8 @@ pub(crate) fn spread(marks: &mut [bool; SPAN], node: Node)
     requires high { node.high < 3074 }
     ensures { Spread marks.old marks.new node }
 {
-    marks[node.low as usize] = true;
-    marks[node.high as usize] = true;
-}
-
-/// Marks each number that is come to from the root.
-fn mark(raw: &[Node], root: u16) -> [bool; SPAN]
-    requires long { length raw.now ≤ 3072 }
-    requires rooted { root < length raw.now + 2 }
-    requires down { Down raw.now }
-    ensures { Marks raw.now root 2 result }
-{
-    let mut marks = [false; SPAN];
-    marks[root as usize] = true;
-    let mut n = raw.len() + 2;
-    while n > 2 {
-        n -= 1;
-        if marks[n] {
-            spread(&mut marks, raw[n - 2]);
-        }
-    }
-    marks
+    marks[usize::from(node.low)] = true;
+    marks[usize::from(node.high)] = true;
 }
 
 /// Whether the node at `i` is marked.
@@ -47,49 +27,62 @@ fn is_marked(marks: &[bool; SPAN], i: usize) -> bool
     marks[i + 2]
 }
 
-/// Makes the marked nodes anew, children first.
-fn rebuild(raw: &[Node], marks: &[bool; SPAN], arity: usize, root: u16) -> Result<NodeChart, Full>
-    requires small { arity ≤ 16 }
-    requires long { length raw.now ≤ 3072 }
-    requires rooted { root < length raw.now + 2 }
-    requires ordered { Ordered arity raw.now (length raw.now) }
-    requires marked { Marks raw.now root 2 marks.now }
-    ensures { Draws arity (mean raw.now arity 0 root) result }
+/// The node with the new numbers of its children.
+fn renamed(old: Node, new: &[u16; SPAN]) -> Node
+    requires low { old.low < 3074 }
+    requires high { old.high < 3074 }
+    ensures { result ≡ renamed old new.now }
 {
-    let mut store = empty();
-    let mut new = [0u16; SPAN];
-    new[1] = 1;
-    for i in 0..raw.len() {
-        if is_marked(marks, i) {
-            let old = raw[i];
-            let node = Node {
-                var: old.var,
-                low: new[old.low as usize],
-                high: new[old.high as usize],
-            };
-            let number = store.make(node)?;
-            new[i + 2] = number;
-        }
-    }
-    let nodes = store.nodes;
-    let count = store.count;
-    let root = new[root as usize];
-    Ok(NodeChart {
-        nodes,
-        count,
-        arity,
-        root,
-    })
+    let low = new[usize::from(old.low)];
+    let high = new[usize::from(old.high)];
+    Node::new(old.var, low, high)
 }
 
-/// The chart of what the root means in an ordered diagram, if the function's size is at most 1,024.
-pub(crate) fn reduce(raw: &[Node], arity: usize, root: u16) -> Result<NodeChart, Full>
-    requires small { arity ≤ 16 }
-    requires long { length raw.now ≤ 3072 }
-    requires rooted { root < length raw.now + 2 }
-    requires ordered { Ordered arity raw.now (length raw.now) }
-    ensures { Draws arity (mean raw.now arity 0 root) result }
-{
-    let marks = mark(raw, root);
-    rebuild(raw, &marks, arity, root)
+/// An ordered diagram that is not yet reduced.
+#[derive(Clone, Copy)]
+pub(crate) struct Unreduced<'a> {
+    pub(crate) nodes: &'a [Node],
+    pub(crate) arity: usize,
+    pub(crate) root: u16,
+    ghost small: { arity ≤ 16 },
+    ghost long: { length nodes.now ≤ 3072 },
+    ghost rooted: { root < length nodes.now + 2 },
+    ghost ordered: { Ordered arity nodes.now (length nodes.now) },
+}
+
+impl Unreduced<'_> {
+    ghost use Rattle.nodes.specs.Diagrams.{mean};
+    ghost use Rattle.nodes.specs.Marks.{Marks};
+    ghost use Rattle.nodes.specs.NodeCharts.{Draws};
+
+    /// Marks each number that is come to from the root.
+    fn marks(&self) -> [bool; SPAN]
+        ensures { Marks self.now.nodes.now self.now.root 2 result }
+    {
+        let mut marks = [false; SPAN];
+        marks[usize::from(self.root)] = true;
+        for (i, node) in self.nodes.iter().enumerate().rev() {
+            if is_marked(&marks, i) {
+                spread(&mut marks, *node);
+            }
+        }
+        marks
+    }
+
+    /// The chart of what the root means, if the function's size is at most 1,024: the marked nodes made anew, children
+    /// first.
+    pub(crate) fn reduce(&self) -> Result<NodeChart, Full>
+        ensures { Draws self.now.arity (mean self.now.nodes.now self.now.arity 0 self.now.root) result }
+    {
+        let marks = self.marks();
+        let mut store = Store::new();
+        let mut new = [0; SPAN];
+        new[1] = 1;
+        for (i, old) in self.nodes.iter().enumerate() {
+            if is_marked(&marks, i) {
+                new[i + 2] = store.make(renamed(*old, &new))?;
+            }
+        }
+        Ok(store.chart(self.arity, new[usize::from(self.root)]))
+    }
 }

@@ -1,10 +1,16 @@
-use Rattle.std.proofs.Common.{arith}
+use Rattle.std.proofs.Common.{◌∙◌, arith}
 use Rattle.nodes.proofs.Swapping.{trios_more}
 use Rattle.nodes.proofs.exchange.spread_out.Goals as goal
 
 pub loop-i-preserved : goal.loop-i-preserved
 loop-i-preserved c =
-    trios_more c.args.chart.now.nodes c.args.p c.loop-i.i c.loop-i.raw c.parted-t.result.a c.parted-t.result.b c.parted-t.result.c c.loop-i.invariant.1 (omega arith) c.loop-i.invariant.0 c.parted-t.ensures
-
-pub returns : goal.returns
-returns c = λ n two less. c.loop-i.invariant.0 n two (omega arith)
+    let s = c.loop-i.raw in
+    let x = c.push.ensures in
+    let y = c.push-in-loop-i.ensures in
+    let z = c.push-in-loop-i-2.ensures in
+    let inv = c.loop-i.invariant in
+    record {
+      arity = z.arity ∙ y.arity ∙ x.arity ∙ inv.arity;
+      count = omega (arith, inv.count, x.count, y.count, z.count);
+      trios = trios_more c.args.chart.now.nodes c.args.p c.loop-i.i s.nodes c.push.new.self.nodes c.push-in-loop-i.new.self.nodes c.push-in-loop-i-2.new.self.nodes s.count c.push.new.self.count c.push-in-loop-i.new.self.count c.parted.result.a c.parted.result.b c.parted.result.c s.long (omega arith) inv.count x.count y.count x.nodes y.nodes z.nodes inv.trios c.parted.ensures;
+    }

@@ -1,46 +1,48 @@
-use Rattle.std.proofs.Common.{◌+◌, ◌-◌, subst, arith}
-use Rattle.functions.specs.Functions.{Fn}
-use Rattle.nodes.specs.NodeCharts.{Draws}
-use Rattle.nodes.proofs.Charting.{code_room, ready, few_shifted, recoded_is}
+use Rattle.std.proofs.Common.{◌≡◌, ℕ, ◌-◌, ◌^◌, length, get_or, sym, ap, ◌∙◌, arith, rules}
+use Rattle.std.proofs.lemmas.List.{length-take-le}
+use Rattle.nodes.specs.NodeCharts.{seen}
+use Rattle.nodes.proofs.Charting.{code_room, coded, ready, few_shifted, recoded_is}
 use Rattle.nodes.proofs.recode.redrawn.Goals as goal
 
-pub leaves_of-leaves-requires : goal.leaves_of-leaves-requires
-leaves_of-leaves-requires c =
-    let ok = c.requires in
-    let w = c.power-width.ensures.within (omega (arith, ok.few)) in
-    record {
-      width = omega (arith, code_room c.args.j ok.few);
-      coded = omega (arith, ok.coded);
-      placed = λ q l. ok.placed q (omega arith);
-    }
+pub slice_bounds-leaves-end : goal.slice_bounds-leaves-end
+slice_bounds-leaves-end c =
+    let len : length c.leaves_of-leaves.result ≡ 16 = search rules in
+    let w = c.power.ensures.within (omega (arith, c.requires.few)) in
+    omega (arith, code_room c.args.recoding.now.codes c.requires.few)
+
+pub slice_bounds-crown-end : goal.slice_bounds-crown-end
+slice_bounds-crown-end c =
+    let len : length c.leaves_of-leaves.result ≡ 16 = search rules in
+    let w = c.power.ensures.within (omega (arith, c.requires.few)) in
+    let room = code_room c.args.recoding.now.codes c.requires.few in
+    sym (length-take-le c.power.result c.leaves_of-leaves.result (omega arith))
 
 pub crown-root-requires : goal.crown-root-requires
 crown-root-requires c =
-    let w = c.power-width.ensures.within (omega (arith, c.requires.few)) in
-    let room = code_room c.args.j c.requires.few in
+    let s = c.args.chart.now in
+    let r = c.args.recoding.now in
+    let len : length c.leaves_of-leaves.result ≡ 16 = search rules in
+    let f : ℕ → ℕ = λ z. seen s.nodes s.count r.bound (get_or r.places.now z 0) in
+    let l = coded f r.class_of.now r.codes c.power.result (c.power.ensures.within (omega (arith, c.requires.few))) c.requires.few c.leaves_of-leaves.result len c.leaves_of-leaves.ensures in
+    let raw = c.shifted-raw.result in
+    let e = c.shifted-raw.ensures in
     record {
-      leaves = ready c.args.chart.now c.args.b c.args.j c.args.places.now c.args.class_of.now c.requires c.power-width.result w c.leaves_of-leaves.result c.leaves_of-leaves.ensures.front c.leaves_of-leaves.ensures.rest c.shifted-raw.result.nodes c.shifted-raw.ensures.shifts c.shifted-raw.result.count c.shifted-raw.ensures.all c.shifted-raw.ensures.none;
+      leaves = rw e.arity (ready s r.bound r.codes r.places.now r.class_of.now c.requires _ l raw.nodes e.shifts raw.count e.all e.none);
       within = omega arith;
-      width = w;
-      inside = omega arith;
-      room = omega (arith, few_shifted c.args.chart.now c.args.b c.args.j c.args.places.now c.args.class_of.now c.requires c.power-width.result w c.leaves_of-leaves.result c.leaves_of-leaves.ensures.front c.leaves_of-leaves.ensures.rest c.shifted-raw.result.nodes c.shifted-raw.ensures.shifts c.shifted-raw.result.count c.shifted-raw.ensures.all c.shifted-raw.ensures.none);
-    }
-
-pub reduced-requires : goal.reduced-requires
-reduced-requires c =
-    let w = c.power-width.ensures.within (omega (arith, c.requires.few)) in
-    let room = code_room c.args.j c.requires.few in
-    let t = c.crown-root.ensures in
-    record {
-      small = c.requires.small;
-      long = omega (arith, t.few, few_shifted c.args.chart.now c.args.b c.args.j c.args.places.now c.args.class_of.now c.requires c.power-width.result w c.leaves_of-leaves.result c.leaves_of-leaves.ensures.front c.leaves_of-leaves.ensures.rest c.shifted-raw.result.nodes c.shifted-raw.ensures.shifts c.shifted-raw.result.count c.shifted-raw.ensures.all c.shifted-raw.ensures.none);
-      rooted = t.there_is;
-      ordered = t.ordered;
+      width = let z : r.codes ≡ r.codes - 0 = omega arith in l.many ∙ ap (λ (q : ℕ). 2 ^ q) z;
+      room = omega (arith, l.few, few_shifted s r.bound r.codes r.places.now r.class_of.now c.requires _ l raw.nodes e.shifts raw.count e.all e.none);
     }
 
 pub returns : goal.returns
 returns c =
-    let w = c.power-width.ensures.within (omega (arith, c.requires.few)) in
     let s = c.args.chart.now in
-    let P : Fn → Type 0 = λ f. Draws (s.arity - c.args.b + c.args.j) f c.reduced.result in
-    subst P (recoded_is c.args.chart.now c.args.b c.args.j c.args.places.now c.args.class_of.now c.requires c.power-width.result w c.leaves_of-leaves.result c.leaves_of-leaves.ensures.front c.leaves_of-leaves.ensures.rest c.shifted-raw.result.nodes c.shifted-raw.ensures.shifts c.shifted-raw.result.count c.shifted-raw.ensures.all c.shifted-raw.ensures.none c.crown-root.new.raw.nodes c.crown-root.new.raw.count c.crown-root.result c.crown-root.ensures) c.reduced.ensures
+    let r = c.args.recoding.now in
+    let len : length c.leaves_of-leaves.result ≡ 16 = search rules in
+    let f : ℕ → ℕ = λ z. seen s.nodes s.count r.bound (get_or r.places.now z 0) in
+    let l = coded f r.class_of.now r.codes c.power.result (c.power.ensures.within (omega (arith, c.requires.few))) c.requires.few c.leaves_of-leaves.result len c.leaves_of-leaves.ensures in
+    let raw = c.shifted-raw.result in
+    let e = c.shifted-raw.ensures in
+    let top = c.crown-root.new.self in
+    let t = rw e.arity at c.crown-root.ensures.top in
+    let m = rw (c.crown-root.ensures.arity, e.arity) at c.reduced.ensures in
+    rw (recoded_is s r.bound r.codes r.places.now r.class_of.now c.requires _ l raw.nodes e.shifts raw.count e.all e.none top.nodes top.count c.crown-root.result t) at m

@@ -5,9 +5,7 @@ use Rattle.nodes.proofs.Charting.{became}
 use Rattle.nodes.proofs.diagrams.NodeChartChart.recode.Goals as goal
 
 pub returns : goal.returns
-returns c = (
-  c.if-not-recodable.ensures.0 refl,
-  became c.args.self.now c.in-Ok.chart (c.args.self.now.arity - c.args.b + c.args.j)
-      (recoded c.args.j (map (place_column c.args.self.now c.args.b) c.args.places.now) (λ q. get_or c.args.class_of.now q 0))
-      c.in-Ok.ensures,
-)
+returns c =
+    let s = c.args.self.now in
+    let r = c.args.recoding.now in
+    (c.if-not-in_range.ensures.0 refl, became s c.in_ok-self.field-0 (s.arity - r.bound + r.codes) (recoded r.codes (map (place_column s r.bound) r.places.now) (λ q. get_or r.class_of.now q 0)) c.in_ok-self.ensures)

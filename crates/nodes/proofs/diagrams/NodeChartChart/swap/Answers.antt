@@ -7,6 +7,6 @@ use Rattle.nodes.proofs.diagrams.NodeChartChart.swap.Goals as goal
 pub returns : goal.returns
 returns c =
     let s = c.args.self.now in
-    let t = c.in-Ok.chart in
+    let t = c.in_ok-self.field-0 in
     let e = ap (exchanged c.args.p) (sym (whole_is s)) in
-    (omega arith, became s t s.arity (exchanged c.args.p (place_column s 0 s.root)) (subst (λ (f : Fn). Drawn s.arity f t) e c.in-Ok.ensures))
+    (omega arith, became s t s.arity (exchanged c.args.p (place_column s 0 s.root)) (subst (λ (f : Fn). Drawn s.arity f t) e c.in_ok-self.ensures))

@@ -1,24 +1,15 @@
-use Rattle.std.proofs.Common.{◌-◌, sym, ◌∙◌, arith}
-use Rattle.nodes.specs.Drafts.{drafted}
-use Rattle.nodes.proofs.Adding.{length_draft}
-use Rattle.nodes.proofs.Naming.{turn_on, turn_found, unnamed-none}
+use Rattle.std.proofs.Common.{◌+◌, ◌-◌, false, get_or, not, sym, ◌∙◌, refl, arith, rules}
+use Rattle.std.proofs.lemmas.Iterator.{YieldsList-from_range}
+use Rattle.std.proofs.lemmas.Iterator.Adapters.{option_map_id}
+use Rattle.std.proofs.lemmas.Iterator.Search.{find_from_yields_List}
+use Rattle.nodes.proofs.Naming.{find-unnamed}
 use Rattle.nodes.proofs.draft.Draft.first_unnamed.Goals as goal
-
-pub returns-then-not-marks-n : goal.returns-then-not-marks-n
-returns-then-not-marks-n c =
-    let d = c.args.self.now in
-    let n = c.loop-n.n in
-    sym (c.loop-n.invariant ∙ turn_found d.arity d.store.nodes d.store.count (omega arith) d.ordered n c.loop-n.auto.n c.loop-n-test.true (sym (c.named-marks.ensures n) ∙ c.if-not-marks-n.true))
-
-pub loop-n-preserved : goal.loop-n-preserved
-loop-n-preserved c =
-    let d = c.args.self.now in
-    let n = c.loop-n.n in
-    c.loop-n.invariant ∙ turn_on d.arity d.store.nodes d.store.count (omega arith) d.ordered n c.loop-n.auto.n c.loop-n-test.true (sym (c.named-marks.ensures n) ∙ c.if-not-marks-n.false)
 
 pub returns : goal.returns
 returns c =
     let d = c.args.self.now in
-    let n = c.loop-n.n in
-    let long = length_draft d.store.nodes d.store.count (omega arith) in
-    sym (c.loop-n.invariant ∙ unnamed-none (drafted d) n (n - 2) (omega arith))
+    let s = d.store in
+    let marks = c.named-marks.result in
+    sym (option_map_id c.find.result)
+    ∙ find_from_yields_List (λ z. not (get_or marks z false)) _ _ c.find.result c.find.ensures.ran (YieldsList-from_range 2 (s.count + 1) (s.count + 1 - 2) refl refl) (λ x b q k. search rules)
+    ∙ find-unnamed d.arity s.nodes s.count (omega arith) d.ordered marks c.named-marks.ensures (s.count + 1 - 2) 2 (omega arith) refl

@@ -1,3 +1,4 @@
+use Rattle.std.proofs.Common.{unwrap_or}
 use Rattle.nodes.proofs.Indexes.{Walk}
 use Rattle.nodes.proofs.store.Store.find.Given as goal
 
@@ -5,4 +6,4 @@ abbrev pub invariant-loop-cur : goal.invariant-loop-cur
 invariant-loop-cur l = Walk l.self.nodes l.self.count l.node l.cur
 
 abbrev pub decreases-loop-cur : goal.decreases-loop-cur
-decreases-loop-cur l = l.cur
+decreases-loop-cur l = unwrap_or l.cur 0

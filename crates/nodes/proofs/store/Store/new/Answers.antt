@@ -1,0 +1,5 @@
+use Rattle.nodes.proofs.Indexes.{index-none}
+use Rattle.nodes.proofs.store.Store.new.Goals as goal
+
+pub invariant_of-result-clause-indexed : goal.invariant_of-result-clause-indexed
+invariant_of-result-clause-indexed c = index-none _ 1024 1024
