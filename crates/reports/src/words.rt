@@ -160,6 +160,6 @@ pub fn frame_text(heap: Global, line: usize, frame: &Frame) -> Result<String, Al
     ensures { IfOk result (λ s. string_bytes s ≡ frame_text line (body frame.now)) }
 {
     let kind = byte_text(heap, frame.kind())?;
-    let name = kind_name(Kind::of(frame.kind()));
+    let name = kind_name(Kind::try_from(frame.kind()).ok());
     frame_pieces(heap, line, kind.as_str(), frame.len(), name)
 }
