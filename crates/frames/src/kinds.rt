@@ -1,7 +1,10 @@
 //! The kinds of frames.
 
-ghost use Rattle.std.specs.Prelude.{◌≡◌};
+ghost use Rattle.std.specs.Prelude.{◌≡◌, Some};
 ghost use Rattle.frames.specs.Kinds.{kind_byte, KindOf};
+ghost use Rattle.frames.specs.Words.{kind_name};
+
+use std::fmt;
 
 /// What a frame is, by its first byte.
 #[derive(Clone, Copy, PartialEq, Eq, Debug)]
@@ -55,5 +58,36 @@ impl TryFrom<u8> for Kind {
             0x32 => Ok(Kind::Fault),
             _ => Err(UnknownKind(byte)),
         }
+    }
+}
+
+impl Kind {
+    /// What the kind is called.
+    pub fn name(&self) -> &'static str
+        ensures { result.now ≡ kind_name (Some self.now) }
+    {
+        match self {
+            Kind::NodePage => "node page",
+            Kind::Node => "node",
+            Kind::BitPage => "bit page",
+            Kind::Bits => "bits",
+            Kind::Network => "network",
+            Kind::Cell => "cell",
+            Kind::Job => "job",
+            Kind::Swap => "swap",
+            Kind::Split => "split",
+            Kind::Close => "close",
+            Kind::Answer => "answer",
+            Kind::Fault => "fault",
+        }
+    }
+}
+
+/// Writes what the kind is called.
+impl fmt::Display for Kind {
+    ghost output = { λ k. Some (kind_name (Some k)) };
+
+    fn fmt<W: fmt::Write>(&self, f: &mut fmt::Formatter<W>) -> fmt::Result {
+        f.write_str(self.name())
     }
 }
