@@ -9,6 +9,7 @@ ghost use Rattle.frames.specs.Words.{numbers_text, flaw_words, frame_words, reco
 use std::fmt;
 
 /// A fault in numbers: the layer that found it, its cause, its line (from 1) and its node; 0 for no line or node.
+// Kept: these are the fields of the product's fault answers, where 0 stands for no line and no node.
 #[derive(Clone, Copy, PartialEq, Eq, Debug)]
 pub struct FaultNumbers {
     pub layer: u8,

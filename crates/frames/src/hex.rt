@@ -73,11 +73,8 @@ pub(crate) fn bytes_into(digits: &[u8], out: &mut [u8; 24]) -> Option<usize>
     if !writes_frame(count) {
         return None;
     }
-    let len = count / 2;
-    for i in 0..len {
-        let high = digit_value(digits[2 * i])?;
-        let low = digit_value(digits[2 * i + 1])?;
-        out[i] = 16 * high + low;
+    for (i, pair) in digits.chunks_exact(2).enumerate() {
+        out[i] = 16 * digit_value(pair[0])? + digit_value(pair[1])?;
     }
-    Some(len)
+    Some(count / 2)
 }
