@@ -38,7 +38,7 @@ pub fn read_heading(reader: &mut FrameReader) -> Result<Option<usize>, RecordFau
     ensures moved { Moved reader.old reader.new }
 {
     let line = reader.line();
-    let kind = Kind::BitPage.byte();
+    let kind = u8::from(Kind::BitPage);
     let Some(frame) = reader.due(&[Form { kind, len: 3 }])? else {
         return Ok(None);
     };
@@ -57,7 +57,7 @@ pub(crate) fn read_bits(reader: &mut FrameReader, n: usize) -> Result<Option<Fra
     ensures moved { Moved reader.old reader.new }
 {
     let line = reader.line();
-    let kind = Kind::Bits.byte();
+    let kind = u8::from(Kind::Bits);
     let len = share_of(n) + 2;
     let Some(frame) = reader.due(&[Form { kind, len }])? else {
         return Ok(None);

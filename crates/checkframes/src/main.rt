@@ -1,8 +1,8 @@
 //! checkframes: reads frames from the standard input, and says of each line what it is or what is wrong with it.
 #![tactic(auto)]
 
+use programs::run;
 use reports::check::check_text;
-use std::env;
 use std::io::Read;
 use std::process::ExitCode;
 
@@ -27,16 +27,5 @@ fn check_input(rt: &HostRuntime) -> anyhow::Result<ExitCode> {
 }
 
 fn main(rt: HostRuntime) -> anyhow::Result<ExitCode> {
-    let mut args = env::args(&rt)?.skip(1);
-    match args.next() {
-        None => check_input(&rt),
-        Some(arg) => {
-            if arg.as_str() == "--help" {
-                rt.print(HELP)?;
-                return Ok(ExitCode::SUCCESS);
-            }
-            rt.eprint(HELP)?;
-            Ok(ExitCode::FAILURE)
-        }
-    }
+    run(&rt, HELP, || check_input(&rt))
 }

@@ -4,8 +4,8 @@
 use bitpages::filling::load_chart;
 use charts::BitChart;
 use counts::counts_text;
+use programs::run;
 use reports::words::fault_text;
-use std::env;
 use std::io::Read;
 use std::process::ExitCode;
 
@@ -38,16 +38,5 @@ fn count_input(rt: &HostRuntime) -> anyhow::Result<ExitCode> {
 }
 
 fn main(rt: HostRuntime) -> anyhow::Result<ExitCode> {
-    let mut args = env::args(&rt)?.skip(1);
-    match args.next() {
-        None => count_input(&rt),
-        Some(arg) => {
-            if arg.as_str() == "--help" {
-                rt.print(HELP)?;
-                return Ok(ExitCode::SUCCESS);
-            }
-            rt.eprint(HELP)?;
-            Ok(ExitCode::FAILURE)
-        }
-    }
+    run(&rt, HELP, || count_input(&rt))
 }

@@ -45,16 +45,16 @@ hex-more bs i h =
     ∙ sym (append_assoc (hex (take i bs)) (hex_digit (get_or bs i 0 / 16) ∷ []) (hex_digit (get_or bs i 0 % 16) ∷ []))
 
 -- a byte's two digits more
-pub two_placed : (o bs : List ℕ) (at i k : ℕ) (out : List ℕ) → i < length bs → k ≡ at + 2 * i → k + 1 < length o → out ≡ placed o at (hex (take i bs))
-    → set (set out k (hex_digit (get_or bs i 0 / 16))) (k + 1) (hex_digit (get_or bs i 0 % 16)) ≡ placed o at (hex (take (i + 1) bs))
-two_placed o bs at i k out h ek room eo =
+pub two_placed : (o bs : List ℕ) (at i : ℕ) → i < length bs → at + 2 * i + 1 < length o
+    → set (set (placed o at (hex (take i bs))) (at + 2 * i) (hex_digit (get_or bs i 0 / 16))) (at + 2 * i + 1) (hex_digit (get_or bs i 0 % 16)) ≡ placed o at (hex (take (i + 1) bs))
+two_placed o bs at i h room =
     let x = hex_digit (get_or bs i 0 / 16) in
     let y = hex_digit (get_or bs i 0 % 16) in
     let n : length (hex (take i bs)) ≡ 2 * i = length-hex (take i bs) ∙ ap (λ (j : ℕ). 2 * j) (length-take-le i bs (omega arith)) in
-    let p = placed_push 0 o at (hex (take i bs)) x k (omega arith) (omega arith) in
+    let p = placed_push 0 o at (hex (take i bs)) x (at + 2 * i) (omega arith) (omega arith) in
     let m = length_push (hex (take i bs)) x in
-    let q = placed_push 0 o at (hex (take i bs) ++ (x ∷ [])) y (k + 1) (omega arith) room in
-    ap (λ (t : List ℕ). set (set t k x) (k + 1) y) eo ∙ ap (λ (t : List ℕ). set t (k + 1) y) p ∙ q ∙ ap (placed o at) (sym (hex-more bs i h))
+    let q = placed_push 0 o at (hex (take i bs) ++ (x ∷ [])) y (at + 2 * i + 1) (omega arith) room in
+    ap (λ (t : List ℕ). set t (at + 2 * i + 1) y) p ∙ q ∙ ap (placed o at) (sym (hex-more bs i h))
 
 -- the lines of frames, one by one
 text-append : (xs ys : List Frame) → text_of (xs ++ ys) ≡ text_of xs ++ text_of ys

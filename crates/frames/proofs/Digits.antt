@@ -1,6 +1,6 @@
 -- The bytes that digits write.
-use Rattle.std.proofs.Common.{◌≡◌, ℕ, ◌+◌, ◌*◌, ◌<◌, ◌≤◌, ◌&&◌, leb, List, [], ◌∷◌, ◌++◌, length, get_or, take, drop, set, Some, None, Option, sym, refl, ap, ◌∙◌, append_assoc, arith}
-use Rattle.std.proofs.lemmas.List.{drop_more, take_more_set, append-nil, drop_all, length-take-le}
+use Rattle.std.proofs.Common.{◌≡◌, ℕ, ◌+◌, ◌*◌, ◌%◌, ◌<◌, ◌≤◌, ◌&&◌, leb, List, [], ◌∷◌, ◌++◌, length, get_or, take, set, Some, None, Option, sym, refl, ap, append_assoc, arith}
+use Rattle.std.proofs.lemmas.List.{take_more_set, append-nil, length-take-le}
 use Rattle.std.proofs.lemmas.Bool.{cond_both, cond-true, and_parts, and_from, leb-true, le-leb}
 use Rattle.frames.specs.Text.{bytes_of, digit_value, paired, bounded}
 
@@ -17,37 +17,33 @@ pub onto_paired : (fs : List ℕ) (h l : ℕ) (rest : Option (List ℕ)) → ont
 onto_paired fs h l None = refl
 onto_paired fs h l (Some bs) = ap Some (sym (append_assoc fs ((16 * h + l) ∷ []) bs))
 
--- two digits at a place of a list
-pub two_more : (ds : List ℕ) (i : ℕ) → 2 * i + 1 < length ds → bytes_of (drop (2 * i) ds) ≡ paired (digit_value (get_or ds (2 * i) 0)) (digit_value (get_or ds (2 * i + 1) 0)) (bytes_of (drop (2 * (i + 1)) ds))
-two_more ds i h =
-    let a : drop (2 * i) ds ≡ get_or ds (2 * i) 0 ∷ drop (2 * i + 1) ds = drop_more ds (2 * i) 0 (omega arith) in
-    let b : drop (2 * i + 1) ds ≡ get_or ds (2 * i + 1) 0 ∷ drop (2 * i + 1 + 1) ds = drop_more ds (2 * i + 1) 0 h in
-    let e : 2 * i + 1 + 1 ≡ 2 * (i + 1) = omega arith in
-    ap bytes_of (a ∙ ap (λ (t : List ℕ). get_or ds (2 * i) 0 ∷ t) (b ∙ ap (λ (k : ℕ). get_or ds (2 * i + 1) 0 ∷ drop k ds) e))
+-- two digits at the front of a list
+pub pair_write : (xs pair rest : List ℕ) → xs ≡ pair ++ rest → length pair ≡ 2 → bytes_of xs ≡ paired (digit_value (get_or pair 0 0)) (digit_value (get_or pair 1 0)) (bytes_of rest)
+pair_write xs [] rest e n = absurd (omega arith)
+pair_write xs (h ∷ []) rest e n = absurd (omega arith)
+pair_write xs (h ∷ l ∷ []) rest e n = ap bytes_of e
+pair_write xs (h ∷ l ∷ m ∷ more) rest e n = absurd (omega arith)
 
 -- two digits more of a loop that reads them
-pub byte_more : (ds bs : List ℕ) (all : Option (List ℕ)) (i h l : ℕ) → 2 * i + 1 < length ds → i < length bs
-    → digit_value (get_or ds (2 * i) 0) ≡ Some h → digit_value (get_or ds (2 * i + 1) 0) ≡ Some l
-    → onto (take i bs) (bytes_of (drop (2 * i) ds)) ≡ all
-    → onto (take (i + 1) (set bs i (16 * h + l))) (bytes_of (drop (2 * (i + 1)) ds)) ≡ all
-byte_more ds bs all i h l in-ds in-bs high low before =
-    let r = bytes_of (drop (2 * (i + 1)) ds) in
-    let a : onto (take (i + 1) (set bs i (16 * h + l))) r ≡ onto (take i bs ++ ((16 * h + l) ∷ [])) r = ap (λ (t : List ℕ). onto t r) (take_more_set bs i (16 * h + l) in-bs) in
-    let b : onto (take i bs) (paired (Some h) (Some l) r) ≡ onto (take i bs ++ ((16 * h + l) ∷ [])) r = onto_paired (take i bs) h l r in
-    let t = two_more ds i in-ds in
-    let d : bytes_of (drop (2 * i) ds) ≡ paired (Some h) (Some l) r = cc in
+pub byte_more : (xs pair rest bs : List ℕ) (all : Option (List ℕ)) (i h l : ℕ) → xs ≡ pair ++ rest → length pair ≡ 2 → i < length bs
+    → digit_value (get_or pair 0 0) ≡ Some h → digit_value (get_or pair 1 0) ≡ Some l
+    → onto (take i bs) (bytes_of xs) ≡ all → onto (take (i + 1) (set bs i (16 * h + l))) (bytes_of rest) ≡ all
+byte_more xs pair rest bs all i h l e n in-bs high low before =
+    let a : onto (take (i + 1) (set bs i (16 * h + l))) (bytes_of rest) ≡ onto (take i bs ++ ((16 * h + l) ∷ [])) (bytes_of rest) = ap (λ (t : List ℕ). onto t (bytes_of rest)) (take_more_set bs i (16 * h + l) in-bs) in
+    let b = onto_paired (take i bs) h l (bytes_of rest) in
+    let t = pair_write xs pair rest e n in
     cc
-
--- a digit that is none
-pub no_high : (ds : List ℕ) (fs : List ℕ) (i : ℕ) → 2 * i + 1 < length ds → digit_value (get_or ds (2 * i) 0) ≡ None → onto fs (bytes_of (drop (2 * i) ds)) ≡ None
-no_high ds fs i h e = rw (two_more ds i h, e)
 
 pub paired_no_low : (h : Option ℕ) (r : Option (List ℕ)) → paired h None r ≡ None
 paired_no_low None r = refl
 paired_no_low (Some h) r = refl
 
-pub no_low : (ds : List ℕ) (fs : List ℕ) (i : ℕ) → 2 * i + 1 < length ds → digit_value (get_or ds (2 * i + 1) 0) ≡ None → onto fs (bytes_of (drop (2 * i) ds)) ≡ None
-no_low ds fs i h e = rw (two_more ds i h, e, paired_no_low)
+-- a digit that is none
+pub no_high : (xs pair rest fs : List ℕ) → xs ≡ pair ++ rest → length pair ≡ 2 → digit_value (get_or pair 0 0) ≡ None → onto fs (bytes_of xs) ≡ None
+no_high xs pair rest fs e n h = rw (pair_write xs pair rest e n, h)
+
+pub no_low : (xs pair rest fs : List ℕ) → xs ≡ pair ++ rest → length pair ≡ 2 → digit_value (get_or pair 1 0) ≡ None → onto fs (bytes_of xs) ≡ None
+no_low xs pair rest fs e n h = rw (pair_write xs pair rest e n, h, paired_no_low)
 
 -- two digits a byte
 paired-length : (h l : Option ℕ) (r : Option (List ℕ)) (n : ℕ) (bs : List ℕ) → ((cs : List ℕ) → r ≡ Some cs → n ≡ 2 * length cs) → paired h l r ≡ Some bs → n + 2 ≡ 2 * length bs
@@ -77,13 +73,12 @@ bounded-none (Some bs) f =
 pub bounded-some : (bs : List ℕ) → 2 ≤ length bs → length bs ≤ 24 → bounded (Some bs) ≡ Some bs
 bounded-some bs a b = cond-true _ _ _ (and_from (leb 2 (length bs)) (leb (length bs) 24) (le-leb 2 (length bs) a) (le-leb (length bs) 24 b))
 
--- all the digits of such a loop
-pub bytes_all : (ds bs : List ℕ) (n : ℕ) → length ds ≡ 2 * n → 2 ≤ n → n ≤ 24 → n ≤ length bs → onto (take n bs) (bytes_of (drop (2 * n) ds)) ≡ bytes_of ds → Some (take n bs) ≡ bounded (bytes_of ds)
-bytes_all ds bs n e low high room h =
-    let a : drop (2 * n) ds ≡ [] = drop_all (2 * n) ds (omega arith) in
-    let b : onto (take n bs) (bytes_of (drop (2 * n) ds)) ≡ onto (take n bs) (Some []) = ap (λ (t : List ℕ). onto (take n bs) (bytes_of t)) a in
+-- all the digits of such a loop, where fewer than two are left
+pub bytes_all : (ds rest bs : List ℕ) (n : ℕ) → length rest < 2 → 2 * n + length rest ≡ length ds → length ds % 2 ≡ 0 → 2 ≤ n → n ≤ 24 → n ≤ length bs
+    → onto (take n bs) (bytes_of rest) ≡ bytes_of ds → Some (take n bs) ≡ bounded (bytes_of ds)
+bytes_all ds [] bs n few long even low high room h =
     let d : take n bs ++ [] ≡ take n bs = append-nil (take n bs) in
     let k : length (take n bs) ≡ n = length-take-le n bs room in
     let f : bounded (Some (take n bs)) ≡ Some (take n bs) = bounded-some (take n bs) (omega arith) (omega arith) in
-    let g : bytes_of ds ≡ Some (take n bs) = cc in
     cc
+bytes_all ds (x ∷ rest) bs n few long even low high room h = absurd (omega arith)

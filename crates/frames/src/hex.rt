@@ -35,11 +35,7 @@ pub fn byte_digits(b: u8) -> [u8; 2]
 pub fn sum_of(bytes: &[u8]) -> u8
     ensures { result ≡ sum bytes.now % 256 }
 {
-    let mut total = 0u8;
-    for b in bytes {
-        total = total.wrapping_add(*b);
-    }
-    total
+    bytes.iter().fold(0u8, |total, b| total.wrapping_add(*b))
 }
 
 /// The byte that makes the sum of a frame's content and itself a multiple of 256.
@@ -54,12 +50,10 @@ pub(crate) fn digit_run(digits: &[u8]) -> usize
     ensures value { result ≡ digit_run digits.now }
     ensures within { result ≤ length digits.now }
 {
-    for (i, c) in digits.iter().enumerate() {
-        if digit_value(*c).is_none() {
-            return i;
-        }
-    }
-    digits.len()
+    digits
+        .iter()
+        .take_while(|c| digit_value(**c).is_some())
+        .count()
 }
 
 /// Whether so many digits write 2 to 24 bytes.
@@ -79,11 +73,8 @@ pub(crate) fn bytes_into(digits: &[u8], out: &mut [u8; 24]) -> Option<usize>
     if !writes_frame(count) {
         return None;
     }
-    let len = count / 2;
-    for i in 0..len {
-        let high = digit_value(digits[2 * i])?;
-        let low = digit_value(digits[2 * i + 1])?;
-        out[i] = 16 * high + low;
+    for (i, pair) in digits.chunks_exact(2).enumerate() {
+        out[i] = 16 * digit_value(pair[0])? + digit_value(pair[1])?;
     }
-    Some(len)
+    Some(count / 2)
 }

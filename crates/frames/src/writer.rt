@@ -26,13 +26,12 @@ fn put_line(bytes: &[u8], out: &mut [u8], start: usize) -> usize
     ensures written { out.new ≡ placed out.old start (line_text bytes.now) }
     ensures stop { result ≡ start + length (line_text bytes.now) }
 {
-    let mut at = start;
-    for b in bytes {
-        put_byte(*b, out, at);
-        at += 2;
+    for (i, b) in bytes.iter().enumerate() {
+        put_byte(*b, out, start + 2 * i);
     }
-    out[at] = b'\n';
-    at + 1
+    let end = start + 2 * bytes.len();
+    out[end] = b'\n';
+    end + 1
 }
 
 /// How many bytes a frame's line takes.
@@ -47,6 +46,7 @@ fn fits(frames: &[Frame], room: usize) -> bool
     ensures { result ≡ nat_le (length (text_of frames.now)) room }
 {
     let mut spare = room;
+    // Kept: tried `try_fold` with `checked_sub`; what it ensures of a whole run does not say that no call failed.
     for frame in frames {
         let need = line_len(frame);
         if spare < need {

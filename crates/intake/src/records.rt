@@ -34,7 +34,7 @@ fn read_due(reader: &mut FrameReader, kind: Kind, len: usize) -> Result<Option<F
     ensures long { IfOk result (λ o. IfSome o (λ f. length (body f) ≡ len)) }
     ensures moved { Moved reader.old reader.new }
 {
-    let kind = kind.byte();
+    let kind = u8::from(kind);
     reader.due(&[Form { kind, len }])
 }
 

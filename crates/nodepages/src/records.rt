@@ -52,7 +52,7 @@ fn read_fields(reader: &mut FrameReader, kind: Kind) -> Result<Option<Triple>, R
     ensures answer { answered (λ t. t) result ≡ fields kind (left reader.old) reader.old.line }
     ensures moved { Moved reader.old reader.new }
 {
-    let kind = kind.byte();
+    let kind = u8::from(kind);
     let Some(frame) = reader.due(&[Form { kind, len: 7 }])? else {
         return Ok(None);
     };

@@ -10,6 +10,7 @@ use frames::reader::FrameReader;
 use std::alloc::{AllocError, Global};
 
 /// A line in words, and whether it is faulty.
+// Kept: the text is there in both cases, so an enum of two texts is no plainer: its users would match to reach it.
 #[derive(Drop)]
 pub struct LineReport {
     pub text: String,

@@ -10,4 +10,4 @@ returns-clause-long c =
     let xs = left c.args.reader.now in
     let line = c.args.reader.now.line in
     let e = sym (ap (λ (z : Option Frame). outcome (Ok z)) c.in-Some.is) ∙ c.in_ok-frame.ensures.answer in
-    due-long c.byte-kind.result (c.share_of-len.result + 2) line (body c.in-Some.frame) (reading xs line) e ∙ ap (λ n. n + 2) c.share_of-len.ensures.value
+    due-long c.from-kind.result (c.share_of-len.result + 2) line (body c.in-Some.frame) (reading xs line) e ∙ ap (λ n. n + 2) c.share_of-len.ensures.value

@@ -1,49 +1,48 @@
 use Rattle.std.proofs.Common.{◌≡◌, ◌/◌, length, take, sym, refl, ap, ◌∙◌, arith}
-use Rattle.std.proofs.lemmas.List.{length-set}
+use Rattle.std.proofs.lemmas.List.{length-set, length-append}
 use Rattle.frames.specs.Text.{bytes_of, bounded}
 use Rattle.frames.proofs.Digits.{byte_more, no_high, no_low, bytes_all, bounded-none, bytes_of-length, onto_nil}
 use Rattle.frames.proofs.hex.bytes_into.Goals as goal
 
-pub returns-then-not-writes_frame : goal.returns-then-not-writes_frame
-returns-then-not-writes_frame c =
-    record {
-      value = sym (bounded-none (bytes_of c.args.digits.now) (λ bs e low high. let n = bytes_of-length c.args.digits.now bs e in c.if-not-writes_frame.ensures.no refl (omega arith) (omega arith) (omega arith)));
-      sized = tt;
-    }
-
-pub returns-in_err-high : goal.returns-in_err-high
-returns-in_err-high c =
-    let w = c.if-not-writes_frame.ensures.yes refl in
-    let e = c.in_err-high.ensures.value in
-    let b = no_high c.args.digits.now (take c.loop-i.i c.loop-i.out) c.loop-i.i (omega arith) (sym e) in
-    let all = c.loop-i.invariant.1 in
-    let r = c.from_residual.ensures in
-    rw r (record { value = cc (ap bounded (sym all ∙ b)); sized = tt })
-
-pub returns-in_err-low : goal.returns-in_err-low
-returns-in_err-low c =
-    let w = c.if-not-writes_frame.ensures.yes refl in
-    let e = c.in_err-low.ensures.value in
-    let b = no_low c.args.digits.now (take c.loop-i.i c.loop-i.out) c.loop-i.i (omega arith) (sym e) in
-    let all = c.loop-i.invariant.1 in
-    let r = c.from_residual-in_err-low.ensures in
-    rw r (record { value = cc (ap bounded (sym all ∙ b)); sized = tt })
+pub returns-then-not-writes_frame-clause-value : goal.returns-then-not-writes_frame-clause-value
+returns-then-not-writes_frame-clause-value c =
+    sym (bounded-none (bytes_of c.args.digits.now) (λ bs e low high. let n = bytes_of-length c.args.digits.now bs e in c.if-not-writes_frame.ensures.no refl (omega arith) (omega arith) (omega arith)))
 
 pub loop-i-init : goal.loop-i-init
-loop-i-init c = (omega arith, onto_nil (bytes_of c.args.digits.now))
+loop-i-init c =
+    rw (c.into_iter-i-iterator.ensures.into_iter_gives, c.enumerate-i-items.ensures.source, c.enumerate-i-items.ensures.count, c.chunks_exact.ensures.rest)
+    (c.told-out, c.chunks_exact.ensures.size, omega arith, onto_nil (bytes_of c.args.digits.now))
+
+pub returns-in_err-digit_value-clause-value : goal.returns-in_err-digit_value-clause-value
+returns-in_err-digit_value-clause-value c =
+    let s = c.in-Some.ensures.steps in
+    let i = c.loop-i.invariant in
+    let b = no_high _ c.in-Some.pair.now _ (take c.loop-i.i-iterator.count c.loop-i.out) s.0.1.0 (s.0.1.1 ∙ i.1) (sym c.in_err-digit_value.ensures.value) in
+    rw c.from_residual.ensures (ap bounded (sym b ∙ i.3))
+
+pub returns-in_err-out-clause-value : goal.returns-in_err-out-clause-value
+returns-in_err-out-clause-value c =
+    let s = c.in-Some.ensures.steps in
+    let i = c.loop-i.invariant in
+    let b = no_low _ c.in-Some.pair.now _ (take c.loop-i.i-iterator.count c.loop-i.out) s.0.1.0 (s.0.1.1 ∙ i.1) (sym c.in_err-out.ensures.value) in
+    rw c.from_residual-in_err-out.ensures (ap bounded (sym b ∙ i.3))
 
 pub loop-i-preserved : goal.loop-i-preserved
-loop-i-preserved c = let w = c.if-not-writes_frame.ensures.yes refl in (
-  length-set _ _ _ ∙ c.loop-i.invariant.0,
-  byte_more c.args.digits.now c.loop-i.out (bytes_of c.args.digits.now) c.loop-i.i c.in_ok-high.high c.in_ok-low.low
-      (omega arith) (omega (arith, c.loop-i.invariant.0)) (sym c.in_ok-high.ensures.value) (sym c.in_ok-low.ensures.value) c.loop-i.invariant.1,
-)
-
-pub returns : goal.returns
-returns c =
+loop-i-preserved c =
+    let s = c.in-Some.ensures.steps in
+    let i = c.loop-i.invariant in
+    let n = ap length s.0.1.0 in
+    let m = length-append c.in-Some.pair.now c.next.new.self.iter.rest.now in
     let w = c.if-not-writes_frame.ensures.yes refl in
-    let e : c.loop-i.i ≡ length c.args.digits.now / 2 = omega arith in
-    record {
-      value = bytes_all c.args.digits.now c.loop-i.out (length c.args.digits.now / 2) (omega arith) (omega arith) (omega arith) (omega (arith, c.loop-i.invariant.0)) (rw e at c.loop-i.invariant.1);
-      sized = (omega arith, omega arith);
-    }
+    let two = s.0.1.1 ∙ i.1 in
+    let more = byte_more _ c.in-Some.pair.now c.next.new.self.iter.rest.now c.loop-i.out _ c.loop-i.i-iterator.count _ _ s.0.1.0 two (omega arith)
+    (sym c.in_ok-digit_value.ensures.value) (sym c.in_ok-out.ensures.value) i.3 in
+    (length-set _ _ _ ∙ i.0, s.0.0 ∙ i.1, omega arith, rw (s.2, s.1) more)
+
+pub returns-clause-value : goal.returns-clause-value
+returns-clause-value c =
+    let s = c.in-None.ensures.steps in
+    let i = c.loop-i.invariant in
+    let w = c.if-not-writes_frame.ensures.yes refl in
+    let half : c.loop-i.i-iterator.count ≡ length c.args.digits.now / 2 = omega arith in
+    rw (sym half) (bytes_all c.args.digits.now c.loop-i.i-iterator.iter.rest.now c.loop-i.out c.loop-i.i-iterator.count (omega arith) i.2 w.0 (omega arith) (omega arith) (omega arith) i.3)

@@ -18,7 +18,7 @@ returns c =
     let line = c.args.reader.now.line in
     let a = c.due.ensures.answer in
     record {
-      answer = a ∙ ap (λ (k : ℕ). awaited (record { kind = k; len = c.args.len } ∷ []) line (reading xs line)) c.byte-kind.ensures;
-      long = long c.byte-kind.result c.args.len line (reading xs line) c.due.result a;
+      answer = a ∙ ap (λ (k : ℕ). awaited (record { kind = k; len = c.args.len } ∷ []) line (reading xs line)) c.from-kind.ensures;
+      long = long c.from-kind.result c.args.len line (reading xs line) c.due.result a;
       moved = c.due.ensures.moved;
     }

@@ -10,4 +10,4 @@ triple_of-requires c =
     let e = sym (ap (λ (z : Option Frame). outcome (Ok z)) c.in-Some.is) ∙ c.in_ok-frame.ensures.answer in
     let xs = left c.args.reader.now in
     let line = c.args.reader.now.line in
-    ap length c.bytes.ensures ∙ due-long c.byte-kind.result 7 line (body c.in-Some.frame) (reading xs line) e
+    ap length c.bytes.ensures ∙ due-long c.from-kind.result 7 line (body c.in-Some.frame) (reading xs line) e
