@@ -1,16 +1,16 @@
 -- Tables by their entries.
-use Rattle.std.proofs.Common.{◌≡◌, ℕ, zero, suc, ◌+◌, ◌*◌, ◌/◌, ◌%◌, ◌^◌, ◌<◌, ◌≤◌, Bool, true, false, cond, eqb, sym, refl, ap, ◌∙◌, subst, ⊎_elim, lt_of_lt_of_le, le_of_suc-le-suc, not-suc-le-zero, eq-or-lt_of_le, add-one, arith, lit<, pow_mono}
-use native.Mathlib.Nat.{div-eq_of_lt, two-pow-succ}
+use Rattle.std.proofs.Common.{◌≡◌, ℕ, zero, suc, ◌+◌, ◌-◌, ◌*◌, ◌/◌, ◌%◌, ◌^◌, ◌<◌, ◌≤◌, min, Bool, true, false, cond, eqb, sym, refl, ap, ◌∙◌, subst, ⊎_elim, lt_of_lt_of_le, le_of_suc-le-suc, not-suc-le-zero, eq-or-lt_of_le, add-one, arith, lit<, pow_mono}
+use native.Mathlib.Nat.{div-eq_of_lt, mod-eq_of_lt, min-eq_left, two-pow-succ}
 use lib.Pow.{high, low}
-use Rattle.families.specs.Tables.{Table, entry_of, tabled}
+use mir.Val.{bool_byte}
+use Rattle.std.proofs.Math.Pow.{pow-lt}
+use Rattle.families.specs.Tables.{Table, entry_of, tabled, Tabulated}
+use Rattle.families.specs.Widening.{widened_table}
 use Rattle.families.specs.Entries.{entry_low}
 
 -- a word of k bits has no entry past them
 pub entry_past : (t k e : ℕ) → t < 2 ^ k → k ≤ e → entry_of t e ≡ false
 entry_past t k e h l = ap (λ n. eqb (n % 2) 1) (div-eq_of_lt (lt_of_lt_of_le h (pow_mono l)))
-
-pub tabled-more : (n : ℕ) (row : ℕ → Bool) → tabled (n + 1) row ≡ tabled n row + cond (row n) (2 ^ n) 0
-tabled-more n row = rw add-one refl
 
 -- one entry more is a bit of the next weight
 tabled-bit : (n t : ℕ) (b : Bool) → t + cond b (2 ^ n) 0 ≡ cond b 1 0 * 2 ^ n + t
@@ -45,3 +45,42 @@ tabled_entry (suc n) row e h =
     ⊎_elim (λ s. subst (λ (k : ℕ). entry_of (t + cond (row n) (2 ^ n) 0) k ≡ row k) (sym s) last)
     (λ l. sym (entry_low (t + cond (row n) (2 ^ n) 0) e n l) ∙ (ap (λ w. entry_of w e) rest ∙ tabled_entry n row e l))
     (eq-or-lt_of_le (le_of_suc-le-suc h))
+
+-- a relation that gives the entries of a row gives its table
+pub tabulated_row : {gives : ℕ → Bool → Type 0} {row : ℕ → Bool} (n t : ℕ) → Tabulated gives n t → ((e : ℕ) (b : Bool) → e < n → gives e b → b ≡ row e) → t ≡ tabled n row
+tabulated_row zero t made same = made
+tabulated_row {gives} {row} (suc n) t (s, b, before, here, e) same =
+    let last : b ≡ row n = same n b (omega arith) here in
+    let rest : s ≡ tabled n row = tabulated_row n s before (λ i c l. same i c (omega arith)) in
+    cc
+
+tabulated-below : (gives : ℕ → Bool → Type 0) (n t : ℕ) → Tabulated gives n t → t < 2 ^ n
+tabulated-below gives zero t made = omega arith
+tabulated-below gives (suc n) t (s, b, before, here, e) = subst (λ (w : ℕ). w < 2 ^ suc n) (sym e) (bit_below n s b (tabulated-below gives n s before))
+
+-- a bit shifted to its weight
+weight : (n : ℕ) (b : Bool) → n < 32 → bool_byte b * 2 ^ n % 2 ^ 32 ≡ cond b (2 ^ n) 0
+weight n true h =
+    let fits : 2 ^ n < 2 ^ 32 = pow-lt h in
+    let one : 1 * 2 ^ n ≡ 2 ^ n = omega arith in
+    ap (λ w. w % 2 ^ 32) one ∙ mod-eq_of_lt fits
+weight n false h = omega arith
+
+module _ (gives : ℕ → Bool → Type 0) (n t : ℕ) (b : Bool) (few : n < 32) (before : Tabulated gives n t) where
+  -- the next entry fits a word
+  pub tabulated_fits : t + bool_byte b * 2 ^ n % 2 ^ 32 < 2 ^ 32
+  tabulated_fits =
+      let most : 2 ^ suc n ≤ 2 ^ 32 = pow_mono few in
+      rw (weight n b few) (lt_of_lt_of_le (bit_below n t b (tabulated-below gives n t before)) most)
+
+  -- and makes the table of one entry more
+  pub tabulated-more : gives n b → Tabulated gives (n + 1) (t + bool_byte b * 2 ^ n % 2 ^ 32)
+  tabulated-more here = rw add-one (t, b, before, here, ap (λ w. t + w) (weight n b few))
+
+-- the table of a widened row
+pub widened_row : {gives : ℕ → Bool → Type 0} (k b t w n : ℕ) → Tabulated gives (min n 32) w → n ≡ 2 ^ min k 5 → ((e : ℕ) (v : Bool) → e < min n 32 → gives e v → v ≡ entry_of t (e / 2 ^ (min k 5 - b))) → w ≡ widened_table k b t
+widened_row {gives} k b t w n made size same =
+    let few : min k 5 ≤ 5 = omega arith in
+    let most : 2 ^ min k 5 ≤ 32 = pow_mono few in
+    let count : min n 32 ≡ 2 ^ min k 5 = ap (λ m. min m 32) size ∙ min-eq_left most in
+    tabulated_row (min n 32) w made same ∙ ap (λ m. tabled m (λ e. entry_of t (e / 2 ^ (min k 5 - b)))) count
