@@ -1,5 +1,5 @@
 -- Tables by their entries.
-use Rattle.std.proofs.Common.{◌≡◌, ℕ, zero, suc, ◌+◌, ◌-◌, ◌*◌, ◌/◌, ◌%◌, ◌^◌, ◌<◌, ◌≤◌, min, Bool, true, false, cond, eqb, sym, refl, ap, ◌∙◌, subst, ⊎_elim, lt_of_lt_of_le, le_of_suc-le-suc, not-suc-le-zero, eq-or-lt_of_le, add-one, arith, lit<, pow_mono}
+use Rattle.std.proofs.Common.{◌≡◌, ℕ, zero, suc, ◌+◌, ◌-◌, ◌*◌, ◌/◌, ◌%◌, ◌^◌, ◌<◌, ◌≤◌, min, Fits, w32, Bool, true, false, cond, eqb, sym, refl, ap, ◌∙◌, subst, ⊎_elim, lt_of_lt_of_le, le_of_suc-le-suc, not-suc-le-zero, eq-or-lt_of_le, add-one, arith, lit<, pow_mono}
 use native.Mathlib.Nat.{div-eq_of_lt, mod-eq_of_lt, min-eq_left, two-pow-succ}
 use lib.Pow.{high, low}
 use mir.Val.{bool_byte}
@@ -66,16 +66,16 @@ weight n true h =
     ap (λ w. w % 2 ^ 32) one ∙ mod-eq_of_lt fits
 weight n false h = omega arith
 
-module _ (gives : ℕ → Bool → Type 0) (n t : ℕ) (b : Bool) (few : n < 32) (before : Tabulated gives n t) where
-  -- the next entry fits a word
-  pub tabulated_fits : t + bool_byte b * 2 ^ n % 2 ^ 32 < 2 ^ 32
-  tabulated_fits =
-      let most : 2 ^ suc n ≤ 2 ^ 32 = pow_mono few in
-      rw (weight n b few) (lt_of_lt_of_le (bit_below n t b (tabulated-below gives n t before)) most)
+-- the next entry fits a word
+pub tabulated_fits : (gives : ℕ → Bool → Type 0) (n t w : ℕ) (b : Bool) → Tabulated gives n t → w ≡ bool_byte b → n < 32 → Fits w32 (t + w * 2 ^ n % 2 ^ 32)
+tabulated_fits gives n t w b before bit few =
+    let most : 2 ^ suc n ≤ 2 ^ 32 = pow_mono few in
+    let next = bit_below n t b (tabulated-below gives n t before) in
+    rw (bit, weight n b few) (omega arith)
 
-  -- and makes the table of one entry more
-  pub tabulated-more : gives n b → Tabulated gives (n + 1) (t + bool_byte b * 2 ^ n % 2 ^ 32)
-  tabulated-more here = rw add-one (t, b, before, here, ap (λ w. t + w) (weight n b few))
+-- and makes the table of one entry more
+pub tabulated_more : (gives : ℕ → Bool → Type 0) (n t w : ℕ) (b : Bool) → Tabulated gives n t → w ≡ bool_byte b → n < 32 → gives n b → Tabulated gives (n + 1) (t + w * 2 ^ n % 2 ^ 32)
+tabulated_more gives n t w b before bit few here = rw (add-one, bit) (t, b, before, here, ap (λ v. t + v) (weight n b few))
 
 -- the table of a widened row
 pub widened_row : {gives : ℕ → Bool → Type 0} (k b t w n : ℕ) → Tabulated gives (min n 32) w → n ≡ 2 ^ min k 5 → ((e : ℕ) (v : Bool) → e < min n 32 → gives e v → v ≡ entry_of t (e / 2 ^ (min k 5 - b))) → w ≡ widened_table k b t

@@ -6,7 +6,7 @@ ghost use Rattle.families.specs.JoinedLaws.{joined_laws};
 
 use super::family::CellFamily;
 use super::tables::entry_of;
-use super::words::{word_bytes, word_of};
+use super::words::word_of;
 use buffers::{WriteRefusal, put};
 
 /// Cells of five pins and the words F and G, joined by the byte H.
@@ -23,8 +23,7 @@ const CHOICE: u8 = 0xCA;
 fn joined_bytes(table: u32) -> [u8; BYTES]
     ensures { result ≡ joined_packed table }
 {
-    let [f_high, f_low] = word_bytes(table);
-    let [g_high, g_low] = word_bytes(table / 65536);
+    let [g_high, g_low, f_high, f_low] = table.to_be_bytes();
     [f_high, f_low, g_high, g_low, CHOICE]
 }
 
@@ -63,10 +62,7 @@ impl CellFamily for Joined {
         };
         let f = entry_of(word_of(*f_high, *f_low), e % 16);
         let g = entry_of(word_of(*g_high, *g_low), e % 16);
-        e < 32
-            && entry_of(
-                u32::from(*choice),
-                4 * (e / 16) + 2 * usize::from(g) + usize::from(f),
-            )
+        let place = 4 * (e / 16) + 2 * usize::from(g) + usize::from(f);
+        e < 32 && entry_of(u32::from(*choice), place)
     }
 }

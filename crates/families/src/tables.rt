@@ -14,6 +14,7 @@ pub fn entry_of(table: u32, e: usize) -> bool
 }
 
 /// The table of the first `count` entries, of which there are 32 at most, and 0 for the others.
+#[tactic(auto, using(crate::proofs::TableEntries::tabulated_more))]
 pub fn tabulate<F: Fn(usize) -> bool>(count: usize, entry: F) -> u32
     requires { (e : ℕ) → e < min count 32 → F.pre entry e }
     ensures { Tabulated (F.post entry) (min count 32) result }
@@ -45,6 +46,7 @@ pub fn widened(k: usize, b: usize, table: u32) -> u32
 }
 
 /// The pins of a widened table that are not used come last, and do not matter.
+#[tactic(auto, using(crate::proofs::Assignments::widening_laws))]
 pub fn widening_lawful()
     ensures { WideningLaws }
 {}

@@ -17,6 +17,7 @@ impl CodeRule for Reflected {
 
     ghost laws = { reflected_laws };
 
+    #[tactic(auto, using(crate::specs::Limits::room_few))]
     fn code(&self, j: usize, class: usize) -> usize {
         if class < room_for(j) { CODES[class] } else { 0 }
     }

@@ -40,6 +40,7 @@ pub fn class_of_code<R: CodeRule>(rule: &R, j: usize, classes: usize, q: usize) 
 }
 
 /// A code leads back to the class that has it, and one that no class has to class 0.
+#[tactic(auto, using(crate::proofs::Holders::holder_laws))]
 pub fn codes_lead_back<R: CodeRule>()
     ensures { HolderLaws R.CodeRule.code }
 {}
