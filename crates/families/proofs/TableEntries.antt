@@ -1,9 +1,10 @@
 -- Tables by their entries.
 use Rattle.std.proofs.Common.{◌≡◌, ℕ, zero, suc, ◌+◌, ◌-◌, ◌*◌, ◌/◌, ◌%◌, ◌^◌, ◌<◌, ◌≤◌, min, Fits, w32, Bool, true, false, cond, eqb, sym, refl, ap, ◌∙◌, subst, ⊎_elim, lt_of_lt_of_le, le_of_suc-le-suc, not-suc-le-zero, eq-or-lt_of_le, add-one, arith, lit<, pow_mono}
-use native.Mathlib.Nat.{div-eq_of_lt, mod-eq_of_lt, min-eq_left, two-pow-succ}
+use native.Mathlib.Nat.{div-eq_of_lt, min-eq_left, two-pow-succ}
 use lib.Pow.{high, low}
 use mir.Val.{bool_byte}
-use Rattle.std.proofs.Math.Pow.{pow-lt}
+use Rattle.std.proofs.lemmas.Nat.{one_shl}
+use Rattle.std.proofs.lemmas.Bool.Decides.{nat_tests}
 use Rattle.families.specs.Tables.{Table, entry_of, tabled, Tabulated}
 use Rattle.families.specs.Widening.{widened_table}
 use Rattle.families.specs.Entries.{entry_low}
@@ -14,12 +15,10 @@ entry_past t k e h l = ap (λ n. eqb (n % 2) 1) (div-eq_of_lt (lt_of_lt_of_le h 
 
 -- one entry more is a bit of the next weight
 tabled-bit : (n t : ℕ) (b : Bool) → t + cond b (2 ^ n) 0 ≡ cond b 1 0 * 2 ^ n + t
-tabled-bit n t true = omega arith
-tabled-bit n t false = omega arith
+tabled-bit n t b = grind (arith, nat_tests)
 
 bit_below : (n t : ℕ) (b : Bool) → t < 2 ^ n → t + cond b (2 ^ n) 0 < 2 ^ suc n
-bit_below n t true h = omega (arith, two-pow-succ n)
-bit_below n t false h = omega (arith, two-pow-succ n)
+bit_below n t b h = grind (arith, nat_tests, two-pow-succ n)
 
 bit_tells : (b : Bool) → eqb (cond b 1 0 % 2) 1 ≡ b
 bit_tells true = refl
@@ -60,11 +59,7 @@ tabulated-below gives (suc n) t (s, b, before, here, e) = subst (λ (w : ℕ). w
 
 -- a bit shifted to its weight
 weight : (n : ℕ) (b : Bool) → n < 32 → bool_byte b * 2 ^ n % 2 ^ 32 ≡ cond b (2 ^ n) 0
-weight n true h =
-    let fits : 2 ^ n < 2 ^ 32 = pow-lt h in
-    let one : 1 * 2 ^ n ≡ 2 ^ n = omega arith in
-    ap (λ w. w % 2 ^ 32) one ∙ mod-eq_of_lt fits
-weight n false h = omega arith
+weight n b h = grind (arith, nat_tests, one_shl n 32 h)
 
 -- the next entry fits a word
 pub tabulated_fits : (gives : ℕ → Bool → Type 0) (n t w : ℕ) (b : Bool) → Tabulated gives n t → w ≡ bool_byte b → n < 32 → Fits w32 (t + w * 2 ^ n % 2 ^ 32)
