@@ -53,20 +53,19 @@ tabulated_row {gives} {row} (suc n) t (s, b, before, here, e) same =
     let rest : s ≡ tabled n row = tabulated_row n s before (λ i c l. same i c (omega arith)) in
     cc
 
-tabulated-below : (gives : ℕ → Bool → Type 0) (n t : ℕ) → Tabulated gives n t → t < 2 ^ n
-tabulated-below gives zero t made = omega arith
-tabulated-below gives (suc n) t (s, b, before, here, e) = subst (λ (w : ℕ). w < 2 ^ suc n) (sym e) (bit_below n s b (tabulated-below gives n s before))
-
 -- a bit shifted to its weight
 weight : (n : ℕ) (b : Bool) → n < 32 → bool_byte b * 2 ^ n % 2 ^ 32 ≡ cond b (2 ^ n) 0
 weight n b h = grind (arith, nat_tests, one_shl n 32 h)
 
--- the next entry fits a word
-pub tabulated_fits : (gives : ℕ → Bool → Type 0) (n t w : ℕ) (b : Bool) → Tabulated gives n t → w ≡ bool_byte b → n < 32 → Fits w32 (t + w * 2 ^ n % 2 ^ 32)
-tabulated_fits gives n t w b before bit few =
-    let most : 2 ^ suc n ≤ 2 ^ 32 = pow_mono few in
-    let next = bit_below n t b (tabulated-below gives n t before) in
-    rw (bit, weight n b few) (omega arith)
+-- the next entry keeps the table below the next power
+pub next_below : (n t w : ℕ) (b : Bool) → t < 2 ^ n → w ≡ bool_byte b → n < 32 → t + w * 2 ^ n % 2 ^ 32 < 2 ^ (n + 1)
+next_below n t w b h bit few = rw (bit, weight n b few, add-one) (bit_below n t b h)
+
+pub next_fits : (n t w : ℕ) (b : Bool) → t < 2 ^ n → w ≡ bool_byte b → n < 32 → Fits w32 (t + w * 2 ^ n % 2 ^ 32)
+next_fits n t w b h bit few =
+    let last : n + 1 ≤ 32 = omega arith in
+    let most : 2 ^ (n + 1) ≤ 2 ^ 32 = pow_mono last in
+    omega (arith, next_below n t w b h bit few)
 
 -- and makes the table of one entry more
 pub tabulated_more : (gives : ℕ → Bool → Type 0) (n t w : ℕ) (b : Bool) → Tabulated gives n t → w ≡ bool_byte b → n < 32 → gives n b → Tabulated gives (n + 1) (t + w * 2 ^ n % 2 ^ 32)

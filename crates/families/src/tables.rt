@@ -1,6 +1,6 @@
 //! Tables of cells, and a table on few pins as one on more.
 
-ghost use Rattle.std.specs.Prelude.{◌≡◌, ℕ, ◌<◌, min, false, length, slice_index_or};
+ghost use Rattle.std.specs.Prelude.{◌≡◌, ℕ, ◌^◌, ◌<◌, min, false, length, slice_index_or};
 ghost use Rattle.families.specs.Tables.{entry_of, tabled, Tabulated};
 ghost use Rattle.families.specs.Widening.{widened_table, WideningLaws};
 
@@ -14,10 +14,11 @@ pub fn entry_of(table: u32, e: usize) -> bool
 }
 
 /// The table of the first `count` entries, of which there are 32 at most, and 0 for the others.
-#[tactic(auto, using(crate::proofs::TableEntries::tabulated_more))]
+#[tactic(auto, using(crate::proofs::TableEntries::next_fits))]
 pub fn tabulate<F: Fn(usize) -> bool>(count: usize, entry: F) -> u32
     requires { (e : ℕ) → e < min count 32 → F.pre entry e }
-    ensures { Tabulated (F.post entry) (min count 32) result }
+    ensures made { Tabulated (F.post entry) (min count 32) result }
+    ensures below { result < 2 ^ min count 32 }
 {
     let mut table = 0;
     for e in 0..count.min(32) {
