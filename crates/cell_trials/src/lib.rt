@@ -66,12 +66,7 @@ mod tests {
         if size > 16 || family.pins() > 5 || family.pack(table, &mut out).is_err() {
             return false;
         }
-        for e in 0..1 << family.pins() {
-            if family.read(&out[..size], e) != entry_of(table, e) {
-                return false;
-            }
-        }
-        true
+        (0..1 << family.pins()).all(|e| family.read(&out[..size], e) == entry_of(table, e))
     }
 
     #[test]

@@ -1,5 +1,5 @@
 -- Tables of cells, as words.
-use Rattle.std.specs.Prelude.{ℕ, zero, suc, ◌+◌, ◌/◌, ◌%◌, ◌^◌, ◌<◌, Bool, true, false, cond, List, [], ◌∷◌, length, ◌==◌}
+use Rattle.std.specs.Prelude.{◌≡◌, ℕ, zero, suc, ◌+◌, ◌/◌, ◌%◌, ◌^◌, ◌<◌, Bool, true, false, cond, List, [], ◌∷◌, length, ◌==◌}
 
 -- a table is a word of 32 bits, of which a cell with K pins takes the first 2 ^ K entries
 abbrev pub Table : ℕ → Type 0
@@ -13,6 +13,11 @@ entry_of t e = t / 2 ^ e % 2 == 1
 abbrev pub tabled : ℕ → (ℕ → Bool) → ℕ
 tabled zero row = 0
 tabled (suc n) row = tabled n row + cond (row n) (2 ^ n) 0
+
+-- the table of n entries that the relation gives, each by its number
+abbrev pub Tabulated : (ℕ → Bool → Type 0) → ℕ → ℕ → Type 0
+Tabulated gives zero t = t ≡ 0
+Tabulated gives (suc n) t = (s : ℕ) × (b : Bool) × Tabulated gives n s × gives n b × (t ≡ s + cond b (2 ^ n) 0)
 
 -- the number of an assignment to pins, the first pin most significant
 abbrev pub assignment : List Bool → ℕ

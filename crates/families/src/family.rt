@@ -26,6 +26,7 @@ pub trait CellFamily {
     /// What these owe one another.
     ghost laws: { Laws number pins size packed reads };
 
+    // Kept: methods and not constants, since the ghost numbers are a value's, and a constant beside each would be no plainer.
     /// The family's number.
     fn number(&self) -> u8
         ensures { result ≡ number self.now };
@@ -48,6 +49,7 @@ pub trait CellFamily {
 }
 
 /// A packed table means its entries, in every family.
+#[tactic(auto, using(crate::proofs::ReadBack::read_back))]
 pub fn packed_tables_read_back<F: CellFamily>()
     ensures { ReadBack F.CellFamily.pins F.CellFamily.size F.CellFamily.packed F.CellFamily.reads }
 {}

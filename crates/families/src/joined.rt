@@ -1,16 +1,16 @@
 //! The family of two words that a byte joins.
 
-ghost use Rattle.std.specs.Prelude.{◌≡◌, ◌<◌, length, if◌then◌else◌};
+ghost use Rattle.std.specs.Prelude.{◌≡◌};
 ghost use Rattle.families.specs.Joined.{joined_packed, joined_reads};
 ghost use Rattle.families.specs.JoinedLaws.{joined_laws};
 
 use super::family::CellFamily;
 use super::tables::entry_of;
-use super::words::{word_bytes, word_of};
+use super::words::word_of;
 use buffers::{WriteRefusal, put};
 
 /// Cells of five pins and the words F and G, joined by the byte H.
-#[derive(Clone, Copy)]
+#[derive(Clone, Copy, PartialEq, Eq, Debug, Default)]
 pub struct Joined;
 
 /// The bytes of F, G and H.
@@ -20,30 +20,11 @@ const BYTES: usize = 5;
 const CHOICE: u8 = 0xCA;
 
 /// The configuration for a table: F has the half where the first pin is 0, and G the other.
-fn joined_bytes(table: u32) -> [u8; 5]
+fn joined_bytes(table: u32) -> [u8; BYTES]
     ensures { result ≡ joined_packed table }
 {
-    let [f_high, f_low] = word_bytes(table);
-    let [g_high, g_low] = word_bytes(table / 65536);
+    let [g_high, g_low, f_high, f_low] = table.to_be_bytes();
     [f_high, f_low, g_high, g_low, CHOICE]
-}
-
-/// The number of a bit.
-fn digit(bit: bool) -> usize
-    ensures { result ≡ (if bit then 1 else 0) }
-{
-    if bit { 1 } else { 0 }
-}
-
-/// The bit that a configuration yields at an assignment.
-fn joined_bit(bytes: &[u8], e: usize) -> bool
-    requires sized { length bytes.now ≡ 5 }
-    requires inside { e < 32 }
-    ensures { result ≡ joined_reads bytes.now e }
-{
-    let f = entry_of(word_of(bytes[0], bytes[1]), e % 16);
-    let g = entry_of(word_of(bytes[2], bytes[3]), e % 16);
-    entry_of(u32::from(bytes[4]), 4 * (e / 16) + 2 * digit(g) + digit(f))
 }
 
 impl CellFamily for Joined {
@@ -76,6 +57,12 @@ impl CellFamily for Joined {
     }
 
     fn read(&self, bytes: &[u8], e: usize) -> bool {
-        bytes.len() == BYTES && e < 32 && joined_bit(bytes, e)
+        let [f_high, f_low, g_high, g_low, choice] = bytes else {
+            return false;
+        };
+        let f = entry_of(word_of(*f_high, *f_low), e % 16);
+        let g = entry_of(word_of(*g_high, *g_low), e % 16);
+        let place = 4 * (e / 16) + 2 * usize::from(g) + usize::from(f);
+        e < 32 && entry_of(u32::from(*choice), place)
     }
 }

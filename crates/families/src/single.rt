@@ -9,11 +9,8 @@ use super::words::{word_bytes, word_of};
 use buffers::{WriteRefusal, put};
 
 /// Cells of four pins and one word, whose bit of weight 2^E is the entry E.
-#[derive(Clone, Copy)]
+#[derive(Clone, Copy, PartialEq, Eq, Debug, Default)]
 pub struct Single;
-
-/// The bytes of its word.
-const BYTES: usize = 2;
 
 impl CellFamily for Single {
     ghost number = { λ _. 4 };
@@ -37,7 +34,7 @@ impl CellFamily for Single {
     }
 
     fn bytes(&self) -> usize {
-        BYTES
+        2
     }
 
     fn pack(&self, table: u32, out: &mut [u8]) -> Result<(), WriteRefusal> {
@@ -45,6 +42,9 @@ impl CellFamily for Single {
     }
 
     fn read(&self, bytes: &[u8], e: usize) -> bool {
-        bytes.len() == BYTES && e < 16 && entry_of(word_of(bytes[0], bytes[1]), e)
+        match bytes {
+            [high, low] => e < 16 && entry_of(word_of(*high, *low), e),
+            _ => false,
+        }
     }
 }

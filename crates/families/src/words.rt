@@ -7,12 +7,13 @@ ghost use Rattle.families.specs.Words.{word_bytes};
 pub fn word_bytes(word: u32) -> [u8; 2]
     ensures { result ≡ word_bytes word }
 {
-    [(word / 256 % 256) as u8, (word % 256) as u8]
+    let [_, _, high, low] = word.to_be_bytes();
+    [high, low]
 }
 
 /// The word of two bytes.
 pub fn word_of(high: u8, low: u8) -> u32
     ensures { result ≡ high * 256 + low }
 {
-    u32::from(high) * 256 + u32::from(low)
+    u32::from(u16::from_be_bytes([high, low]))
 }

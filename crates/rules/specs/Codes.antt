@@ -1,5 +1,5 @@
 -- Codes of classes, and the class of a code.
-use Rattle.std.specs.Prelude.{◌≡◌, ℕ, zero, suc, ◌^◌, ◌<◌, ◌≤◌, min, cond, ◌==◌, ◌≢◌, nat_le, nat_lt}
+use Rattle.std.specs.Prelude.{◌≡◌, ℕ, zero, suc, ◌^◌, ◌<◌, ◌≤◌, min, cond, Option, MatchOption, ◌==◌, ◌≢◌, nat_le, nat_lt}
 
 -- of rules R: the code that a rule gives to a class, by the number of bits j
 pub record Laws {R : Type 0} (code : R → ℕ → ℕ → ℕ) : Type 0 where
@@ -24,6 +24,10 @@ limited codes j c = cond (nat_lt c (room j)) (codes c) 0
 abbrev pub holder : (ℕ → ℕ) → ℕ → ℕ → ℕ
 holder code q zero = 0
 holder code q (suc k) = cond (code k == q) k (holder code q k)
+
+-- a class below k with the code q, if there is one
+abbrev pub Has : (ℕ → ℕ) → ℕ → ℕ → Option ℕ → Type 0
+Has code q k found = MatchOption found ((c : ℕ) → c < k → code c ≢ q) (λ c. (c < k) × (code c ≡ q))
 
 -- among k classes that all have codes
 pub record HolderLaws {R : Type 0} (code : R → ℕ → ℕ → ℕ) : Type 0 where

@@ -1,7 +1,6 @@
 //! The rule of the reflected binary code.
 
-ghost use Rattle.std.specs.Prelude.{◌≡◌, ◌<◌, slice_index};
-ghost use Rattle.rules.specs.Reflected.{reflected, reflected_codes};
+ghost use Rattle.rules.specs.Reflected.{reflected};
 ghost use Rattle.rules.specs.RuleLaws.{reflected_laws};
 
 use super::rule::{CodeRule, room_for};
@@ -9,16 +8,8 @@ use super::rule::{CodeRule, room_for};
 /// The codes of the classes 0 to 15: for each `j` up to 4 the first 2^`j` are the numbers below 2^`j` in some order.
 const CODES: [usize; 16] = [0, 1, 3, 2, 6, 7, 5, 4, 12, 13, 15, 14, 10, 11, 9, 8];
 
-/// The entry of a class.
-fn entry(class: usize) -> usize
-    requires { class < 16 }
-    ensures { result ≡ slice_index reflected_codes class }
-{
-    CODES[class]
-}
-
 /// The code of a class is its number in the reflected binary code.
-#[derive(Clone, Copy)]
+#[derive(Clone, Copy, PartialEq, Eq, Debug, Default)]
 pub struct Reflected;
 
 impl CodeRule for Reflected {
@@ -26,7 +17,8 @@ impl CodeRule for Reflected {
 
     ghost laws = { reflected_laws };
 
+    #[tactic(auto, using(crate::specs::Limits::room_few))]
     fn code(&self, j: usize, class: usize) -> usize {
-        if class < room_for(j) { entry(class) } else { 0 }
+        if class < room_for(j) { CODES[class] } else { 0 }
     }
 }

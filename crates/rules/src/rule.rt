@@ -1,7 +1,7 @@
 //! What a code rule is, and the way back from a code to its class.
 
 ghost use Rattle.std.specs.Prelude.{◌≡◌, ℕ, min};
-ghost use Rattle.rules.specs.Codes.{Laws, room, holder, HolderLaws};
+ghost use Rattle.rules.specs.Codes.{Laws, room, holder, Has, HolderLaws};
 
 /// A rule that gives each class a code of `j` bits.
 pub trait CodeRule {
@@ -20,30 +20,27 @@ pub trait CodeRule {
 pub fn room_for(j: usize) -> usize
     ensures { result ≡ room j }
 {
+    // Kept: `bits::power` has another limit, so the test for 4 and the 0 would stay beside a call of it.
     if j > 4 { 0 } else { 1 << j }
 }
 
-/// The class below `count` that has the code `q` of `j` bits, or class 0 if none has.
-fn class_among<R: CodeRule>(rule: &R, j: usize, count: usize, q: usize) -> usize
-    ensures { result ≡ holder (R.CodeRule.code rule.now j) q count }
+/// A class below `count` that has the code `q` of `j` bits.
+fn class_with<R: CodeRule>(rule: &R, j: usize, count: usize, q: usize) -> Option<usize>
+    ensures { Has (R.CodeRule.code rule.now j) q count result }
 {
-    let mut found = 0;
-    for c in 0..count {
-        if rule.code(j, c) == q {
-            found = c;
-        }
-    }
-    found
+    (0..count).find(|c| rule.code(j, *c) == q)
 }
 
 /// The class below `classes` that has the code `q` of `j` bits, or class 0 if none has, as for more than 4 bits.
+#[tactic(auto, using(crate::proofs::Holders::holder_found))]
 pub fn class_of_code<R: CodeRule>(rule: &R, j: usize, classes: usize, q: usize) -> usize
     ensures { result ≡ holder (R.CodeRule.code rule.now j) q (min classes (room j)) }
 {
-    class_among(rule, j, classes.min(room_for(j)), q)
+    class_with(rule, j, classes.min(room_for(j)), q).unwrap_or(0)
 }
 
 /// A code leads back to the class that has it, and one that no class has to class 0.
+#[tactic(auto, using(crate::proofs::Holders::holder_laws))]
 pub fn codes_lead_back<R: CodeRule>()
     ensures { HolderLaws R.CodeRule.code }
 {}
