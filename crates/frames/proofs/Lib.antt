@@ -8,3 +8,4 @@ pub mod RoundTrip
 pub mod Forms
 pub mod Telling
 pub mod Lengths
+pub mod Pages
