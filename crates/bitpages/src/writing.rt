@@ -9,7 +9,7 @@ ghost use Rattle.bitpages.specs.Table.{size, share, count, parts, byte_of};
 ghost use Rattle.bitpages.specs.Written.{bits_frame};
 ghost use Rattle.bitpages.specs.declared.writing.TableRefusal.TheVariants.{Unwritten};
 
-use crate::records::{share_of, size_of};
+use crate::records::Arity;
 use bits::power;
 use buffers::WriteRefusal;
 use frames::frame::Frame;
@@ -51,8 +51,8 @@ fn byte_of(eight: &[bool]) -> u8
     ensures { result ≡ byte_of eight.now }
 {
     let mut byte = 0;
-    for j in 0..eight.len() {
-        if eight[j] {
+    for (j, bit) in eight.iter().enumerate() {
+        if *bit {
             byte += 1 << j;
         }
     }
@@ -81,14 +81,14 @@ fn frame_of(kind: Kind, fields: &[u8]) -> Frame
     Frame::sealed(&content[0..len]).unwrap()
 }
 
-/// Puts the frames that carry the bytes of a table of n arguments behind the first of `frames`, and answers how many
-/// frames there are then.
-fn put_shares(n: usize, bytes: &[u8], frames: &mut [Frame; 33]) -> usize
-    requires { (n ≤ 12) × (length bytes.now ≡ size n) }
-    ensures many { result ≡ count n + 1 }
-    ensures bodies { map body (take result frames.new) ≡ map body (take 1 frames.old) ++ map bits_frame (parts (share n) (count n) bytes.now) }
+/// Puts the frames that carry the bytes of a table behind the first of `frames`, and answers how many frames there are
+/// then.
+fn put_shares(arity: Arity, bytes: &[u8], frames: &mut [Frame; 33]) -> usize
+    requires { length bytes.now ≡ size arity.n }
+    ensures many { result ≡ count arity.n + 1 }
+    ensures bodies { map body (take result frames.new) ≡ map body (take 1 frames.old) ++ map bits_frame (parts (share arity.n) (count arity.n) bytes.now) }
 {
-    let share = share_of(n);
+    let share = arity.share();
     let count = bytes.len() / share;
     for k in 0..count {
         let at = k * share;
@@ -102,13 +102,14 @@ fn put_shares(n: usize, bytes: &[u8], frames: &mut [Frame; 33]) -> usize
 pub fn write_table(n: usize, table: &[bool], out: &mut [u8]) -> Result<usize, TableRefusal>
     ensures { Put n table.now out.old out.new result }
 {
-    if n < 1 || n > 12 || table.len() != power(n) {
+    if !(1..=12).contains(&n) || table.len() != power(n) {
         return Err(TableRefusal::NoTable);
     }
-    let size = size_of(n);
+    let arity = Arity { n };
+    let size = arity.bytes();
     let mut bytes = [0u8; 512];
     pack(table, size, &mut bytes);
     let mut frames = [frame_of(Kind::BitPage, &[n as u8]); 33];
-    let len = put_shares(n, &bytes[0..size], &mut frames);
-    Ok(write_frames(&frames[0..len], out)?)
+    let len = put_shares(arity, &bytes[..size], &mut frames);
+    Ok(write_frames(&frames[..len], out)?)
 }
