@@ -76,7 +76,7 @@ fn frame_of(kind: Kind, fields: &[u8]) -> Frame
     ensures { body result ≡ sealed (kind_byte kind ∷ fields.now) }
 {
     let len = fields.len() + 1;
-    let mut content = [kind.byte(); 23];
+    let mut content = [u8::from(kind); 23];
     content[1..len].copy_from_slice(fields);
     Frame::sealed(&content[0..len]).unwrap()
 }

@@ -69,7 +69,7 @@ fn sealed_cell(pins: &[u8], config: &[u8]) -> Frame
     requires config { length config.now ≤ 16 }
     ensures { body result ≡ sealed (0x12 ∷ (pins.now ++ config.now)) }
 {
-    let mut content = [Kind::Cell.byte(); 23];
+    let mut content = [u8::from(Kind::Cell); 23];
     let fields = pins.len() + config.len();
     for i in 0..fields {
         content[i + 1] = byte_at(pins, config, i);
@@ -90,7 +90,7 @@ fn frame_of<F: CellFamily>(family: &F, cell: &Cell) -> Frame
 fn heading_content(number: u8, inputs: u8, cells: u8) -> [u8; 4]
     ensures { result ≡ 0x11 ∷ number ∷ inputs ∷ cells ∷ [] }
 {
-    [Kind::Network.byte(), number, inputs, cells]
+    [u8::from(Kind::Network), number, inputs, cells]
 }
 
 impl<C: Chart, R: CodeRule, F: CellFamily> Design<C, R, F> {

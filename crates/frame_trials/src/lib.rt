@@ -6,7 +6,7 @@ mod tests {
     use buffers::WriteRefusal;
     use frames::faults::{FaultNumbers, PageFault};
     use frames::frame::{Form, Frame};
-    use frames::kinds::Kind;
+    use frames::kinds::{Kind, UnknownKind};
     use frames::reader::FrameReader;
     use frames::writer::write_frames;
     use reports::check::check_text;
@@ -62,7 +62,7 @@ mod tests {
     #[test]
     fn frames_that_are_due(rt: HostRuntime) -> Result<(), Fail> {
         let forms = [Form {
-            kind: Kind::Close.byte(),
+            kind: u8::from(Kind::Close),
             len: 2,
         }];
         let mut reader = FrameReader::new(b"2101DE\n23DD\n2300DD\n");
@@ -79,8 +79,8 @@ mod tests {
             Err(fault) => assert_eq!(rt; fault.numbers(), numbers(1, 3, 3, 0)),
         }
         assert_eq!(rt; reader.line(), 4);
-        assert_eq!(rt; Kind::of(0x12), Some(Kind::Cell));
-        assert_eq!(rt; Kind::of(0x05), None);
+        assert_eq!(rt; Kind::try_from(0x12), Ok(Kind::Cell));
+        assert_eq!(rt; Kind::try_from(0x05), Err(UnknownKind(0x05)));
         Ok(())
     }
 

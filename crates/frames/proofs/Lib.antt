@@ -9,3 +9,4 @@ pub mod Forms
 pub mod Telling
 pub mod Lengths
 pub mod Pages
+pub mod HexText

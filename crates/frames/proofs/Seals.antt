@@ -1,12 +1,18 @@
 -- The byte that makes a frame's sum right.
 use Rattle.std.proofs.Common.{◌≡◌, ℕ, ◌+◌, ◌-◌, ◌%◌, ◌<◌, ◌≤◌, List, [], ◌∷◌, ◌++◌, length, get_or, take, drop, set, replicate, Some, sum, sym, ap, ◌∙◌, inl, inr, arith}
-use Rattle.std.proofs.lemmas.List.Sums.{sum_by_push, sum_by_more}
+use Rattle.std.proofs.lemmas.List.Sums.{sum_by-cons, sum_by_push, sum_by_more}
 use Rattle.std.proofs.lemmas.Bool.{cases_lt, cond-true, cond-false, ne_eqb, eq-eqb}
 use Rattle.std.proofs.lemmas.List.{take_all, take_more_set, take_at, length-append, length_push, length-drop, length-take, get_or_append_left, get_or_push, get_or_past, get_or-take}
+use Rattle.std.specs.List.{fold}
 use Rattle.frames.specs.declared.faults.FrameFault.TheVariants.{WrongSum}
 use Rattle.frames.specs.Numbers.{numbers}
 use Rattle.frames.specs.Text.{Good, Bytes, sealing, sealed, bytes_of, bounded}
 use Rattle.frames.specs.Outcome.{frame, fault, judged, line_outcome}
+
+-- a sum that wraps at each byte
+pub fold-wraps : (n : ℕ) (bs : List ℕ) → n < 256 → fold (λ t b. (t + b) % 256) n bs ≡ (n + sum bs) % 256
+fold-wraps n [] h = omega arith
+fold-wraps n (b ∷ bs) h = let s = sum_by-cons (λ x. x) b bs in fold-wraps ((n + b) % 256) bs (omega arith) ∙ omega arith
 
 -- content and the closing byte, laid into an array
 pub sealed_array : (ys cs : List ℕ) (a : ℕ) → ys ≡ cs → length cs ≤ 23 → a ≡ sealing cs → take (length cs + 1) (set (ys ++ drop (length cs - 0) (replicate {A = ℕ} 24 0)) (length cs) a) ≡ sealed cs

@@ -1,6 +1,7 @@
 -- The kinds of frames: the first byte of each.
-use Rattle.std.specs.Prelude.{ℕ, cond, List, [], ◌∷◌, Some, None, Option, ◌==◌}
+use Rattle.std.specs.Prelude.{◌≡◌, ℕ, cond, List, [], ◌∷◌, Some, None, Ok, Err, Option, Result, ◌==◌, ◌≢◌}
 use Rattle.frames.specs.declared.kinds.Kind.{Kind}
+use Rattle.frames.specs.declared.kinds.UnknownKind.{UnknownKind}
 use Rattle.frames.specs.declared.kinds.Kind.TheVariants.{NodePage, Node, BitPage, Bits, Network, Cell, Job, Swap, Split, Close, Answer, Fault}
 
 -- the byte that a kind's frames begin with
@@ -30,3 +31,8 @@ kind_among (k ∷ ks) b = cond (kind_byte k == b) (Some k) (kind_among ks b)
 -- the kind that a byte stands for
 abbrev pub kind_of : ℕ → Option Kind
 kind_of b = kind_among kinds b
+
+-- the kind that a byte stands for, whose byte it is; or that byte, which is no kind's
+abbrev pub KindOf : ℕ → Result Kind UnknownKind → Type 0
+KindOf b (Ok k) = (kind_of b ≡ Some k) × (kind_byte k ≡ b)
+KindOf b (Err e) = (kind_of b ≡ None) × ((k : Kind) → kind_byte k ≢ b) × (e.0 ≡ b)

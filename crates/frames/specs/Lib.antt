@@ -7,3 +7,4 @@ pub mod Reading
 pub mod Laws
 pub mod Writing
 pub mod Pages
+pub mod Words

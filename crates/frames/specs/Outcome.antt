@@ -1,5 +1,6 @@
 -- What stands at a place of a text: a frame, the end, or a fault.
-use Rattle.std.specs.Prelude.{ℕ, ◌+◌, ◌-◌, ◌/◌, ◌%◌, Bool, false, cond, ◌&&◌, ◌||◌, List, [], ◌∷◌, length, take, drop, Some, None, Ok, Err, sum, Option, Result, ◌==◌, nat_lt, slice_index}
+use Rattle.std.specs.Prelude.{ℕ, ◌+◌, ◌-◌, ◌/◌, ◌%◌, Bool, cond, ◌&&◌, List, [], ◌∷◌, length, take, drop, Some, None, Ok, Err, sum, Option, Result, ◌==◌, nat_lt, slice_index}
+use Rattle.std.specs.List.{list_any}
 use Rattle.frames.specs.declared.frame.Frame.{Frame}
 use Rattle.frames.specs.declared.frame.Form.{Form}
 use Rattle.frames.specs.declared.faults.FaultNumbers.{FaultNumbers}
@@ -70,8 +71,7 @@ admits f k n = f.kind == k && f.len == n
 
 -- is a frame of one of these forms?
 abbrev pub is_due : List Form → List ℕ → Bool
-is_due [] bs = false
-is_due (f ∷ fs) bs = admits f (slice_index bs 0) (length bs) || is_due fs bs
+is_due fs bs = list_any (λ f. admits f (slice_index bs 0) (length bs)) fs
 
 -- a good frame that is not due is a fault
 abbrev pub awaited : List Form → ℕ → Outcome → Outcome

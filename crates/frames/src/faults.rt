@@ -1,9 +1,12 @@
 //! What can be wrong with a text of frames, layer by layer. Each layer keeps the fault of the one below it whole.
 
-ghost use Rattle.std.specs.Prelude.{◌≡◌};
+ghost use Rattle.std.specs.Prelude.{◌≡◌, Some};
 ghost use Rattle.frames.specs.Numbers.{frame_numbers, record_numbers, page_numbers};
 ghost use Rattle.frames.specs.declared.faults.PageFault.TheVariants.{Record};
 ghost use Rattle.frames.specs.declared.faults.RecordFault.TheVariants.{Frame};
+ghost use Rattle.frames.specs.Words.{numbers_text, flaw_words, frame_words, record_words, page_words};
+
+use std::fmt;
 
 /// A fault in numbers: the layer that found it, its cause, its line (from 1) and its node; 0 for no line or node.
 #[derive(Clone, Copy, PartialEq, Eq, Debug)]
@@ -141,6 +144,84 @@ impl PageFault {
             cause,
             line,
             node,
+        }
+    }
+}
+
+impl fmt::Display for FaultNumbers {
+    ghost output = { λ n. Some (numbers_text n) };
+
+    fn fmt<W: fmt::Write>(&self, f: &mut fmt::Formatter<W>) -> fmt::Result {
+        let line = self.line;
+        let layer = self.layer;
+        let cause = self.cause;
+        let node = self.node;
+        write!(f, "line {line}: layer {layer}, cause {cause}")?;
+        if node == 0 {
+            return Ok(());
+        }
+        write!(f, ", node {node}")
+    }
+}
+
+impl fmt::Display for Flaw {
+    ghost output = { λ w. Some (flaw_words w) };
+
+    fn fmt<W: fmt::Write>(&self, f: &mut fmt::Formatter<W>) -> fmt::Result {
+        match self {
+            Flaw::NoEnd => f.write_str("the line has no end"),
+            Flaw::Character { column } => { write!(f, "character {column} is none of 0-9 and A-F") }
+            Flaw::OddDigits => f.write_str("an odd number of digits"),
+            Flaw::Length { bytes } => write!(f, "{bytes} bytes are not 2 to 24"),
+        }
+    }
+}
+
+impl fmt::Display for FrameFault {
+    ghost output = { λ e. Some (frame_words e) };
+
+    fn fmt<W: fmt::Write>(&self, f: &mut fmt::Formatter<W>) -> fmt::Result {
+        match self {
+            FrameFault::Malformed { flaw, .. } => write!(f, "{flaw}"),
+            FrameFault::WrongSum { right, .. } => {
+                let byte = *right;
+                write!(f, "wrong sum, the last byte should be {byte:02X}")
+            }
+            FrameFault::NotDue { .. } => f.write_str("another kind is due, or another byte count"),
+        }
+    }
+}
+
+impl fmt::Display for RecordFault {
+    ghost output = { λ e. Some (record_words e) };
+
+    fn fmt<W: fmt::Write>(&self, f: &mut fmt::Formatter<W>) -> fmt::Result {
+        match self {
+            RecordFault::Frame(below) => write!(f, "{below}"),
+            RecordFault::OutOfRange { .. } => {
+                f.write_str("a field is out of range, or the root is wrong")
+            }
+            RecordFault::BadPlace { .. } => {
+                f.write_str("a bad place or child, or a spare bit is set")
+            }
+            RecordFault::Repeated { .. } => f.write_str("equal children, or an earlier node again"),
+            RecordFault::BadPin { .. } => {
+                f.write_str("a pin is no input, earlier cell or FF, or is used after FF")
+            }
+        }
+    }
+}
+
+impl fmt::Display for PageFault {
+    ghost output = { λ e. Some (page_words e) };
+
+    fn fmt<W: fmt::Write>(&self, f: &mut fmt::Formatter<W>) -> fmt::Result {
+        match self {
+            PageFault::Record(below) => write!(f, "{below}"),
+            PageFault::Unnamed { .. } => f.write_str("no later node names this one"),
+            PageFault::Missing { .. } => f.write_str("a frame is missing"),
+            PageFault::Surplus { .. } => f.write_str("a frame follows all that are due"),
+            PageFault::TooLong => f.write_str("the job has more than 32768 bytes"),
         }
     }
 }

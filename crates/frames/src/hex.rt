@@ -35,11 +35,7 @@ pub fn byte_digits(b: u8) -> [u8; 2]
 pub fn sum_of(bytes: &[u8]) -> u8
     ensures { result ≡ sum bytes.now % 256 }
 {
-    let mut total = 0u8;
-    for b in bytes {
-        total = total.wrapping_add(*b);
-    }
-    total
+    bytes.iter().fold(0u8, |total, b| total.wrapping_add(*b))
 }
 
 /// The byte that makes the sum of a frame's content and itself a multiple of 256.
@@ -54,12 +50,10 @@ pub(crate) fn digit_run(digits: &[u8]) -> usize
     ensures value { result ≡ digit_run digits.now }
     ensures within { result ≤ length digits.now }
 {
-    for (i, c) in digits.iter().enumerate() {
-        if digit_value(*c).is_none() {
-            return i;
-        }
-    }
-    digits.len()
+    digits
+        .iter()
+        .take_while(|c| digit_value(**c).is_some())
+        .count()
 }
 
 /// Whether so many digits write 2 to 24 bytes.

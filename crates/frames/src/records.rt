@@ -29,7 +29,7 @@ pub fn read_due(
     ensures long { IfOk result (λ o. IfSome o (λ f. length (body f) ≡ len)) }
     ensures moved { Moved reader.old reader.new }
 {
-    let kind = kind.byte();
+    let kind = u8::from(kind);
     reader.due(&[Form { kind, len }])
 }
 

@@ -97,10 +97,5 @@ pub(crate) fn is_due(forms: &[Form], frame: &Frame) -> bool
 {
     let kind = frame.kind();
     let len = frame.len();
-    for form in forms {
-        if form.admits(kind, len) {
-            return true;
-        }
-    }
-    false
+    forms.iter().any(|form| form.admits(kind, len))
 }

@@ -9,17 +9,21 @@ use crate::faults::{Flaw, FrameFault};
 use crate::frame::parts::{frame_of, is_due};
 use crate::frame::{Form, Frame};
 
+/// How many bytes come before the first byte 0A, or how many there are.
+fn line_width(bytes: &[u8]) -> usize
+    ensures value { result ≡ width bytes.now }
+    ensures within { result ≤ length bytes.now }
+{
+    bytes.iter().take_while(|c| **c != b'\n').count()
+}
+
 /// Where the line that begins at `start` ends: at the first byte 0A, or with the text.
 fn line_end(bytes: &[u8], start: usize) -> usize
     requires { start ≤ length bytes.now }
     ensures value { result ≡ start + width (drop start bytes.now) }
     ensures within { (start ≤ result) × (result ≤ length bytes.now) }
 {
-    let mut at = start;
-    while at < bytes.len() && bytes[at] != b'\n' {
-        at += 1;
-    }
-    at
+    start + line_width(&bytes[start..])
 }
 
 impl<'a> FrameReader<'a> {

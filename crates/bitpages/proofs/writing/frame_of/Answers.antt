@@ -13,13 +13,13 @@ laid fs gs post a b e is =
 
 pub slice_bounds-sealed-end : goal.slice_bounds-sealed-end
 slice_bounds-sealed-end c =
-    let post : List ℕ = post_of 1 (length c.args.fields.now + 1 - 1) (replicate 23 c.byte-content.result) in
+    let post : List ℕ = post_of 1 (length c.args.fields.now + 1 - 1) (replicate 23 c.from-content.result) in
     omega (arith, length-append c.copy_from_slice.new.self post, ap length c.copy_from_slice.ensures.after)
 
 pub returns : goal.returns
 returns c =
     let fs = c.args.fields.now in
-    let post : List ℕ = post_of 1 (length fs + 1 - 1) (replicate 23 c.byte-content.result) in
+    let post : List ℕ = post_of 1 (length fs + 1 - 1) (replicate 23 c.from-content.result) in
     let h = c.sealed.ensures in
     let s = rw c.unwrap.ensures at h in
-    s.2 ∙ ap sealed (laid fs c.copy_from_slice.new.self post c.byte-content.result (kind_byte c.args.kind) c.copy_from_slice.ensures.after c.byte-content.ensures)
+    s.2 ∙ ap sealed (laid fs c.copy_from_slice.new.self post c.from-content.result (kind_byte c.args.kind) c.copy_from_slice.ensures.after c.from-content.ensures)

@@ -1,10 +1,10 @@
-use Rattle.std.proofs.Common.{refl, rules}
-use Rattle.std.proofs.lemmas.List.Sums.{sum_by_more}
-use Rattle.std.proofs.lemmas.List.{take_all}
+use Rattle.std.proofs.Common.{◌≡◌, ◌+◌, ◌%◌, ◌∙◌, rules, arith}
+use Rattle.std.specs.List.{fold}
+use Rattle.std.proofs.iter.runs.Made.{chains}
+use Rattle.frames.proofs.Seals.{fold-wraps}
 use Rattle.frames.proofs.hex.sum_of.Goals as goal
 
-pub loop-b-init : goal.loop-b-init
-loop-b-init c = (refl, λ k h. sum_by_more (λ x. x) c.args.bytes.now k 0 h)
-
 pub returns : goal.returns
-returns c = search (rules, take_all)
+returns c =
+    let folded : c.fold.result ≡ fold (λ t b. (t + b) % 256) 0 c.args.bytes.now = search (rules, chains) in
+    folded ∙ fold-wraps 0 c.args.bytes.now (omega arith) ∙ omega arith
