@@ -1,6 +1,6 @@
 //! Writing the bit page of a table.
 
-ghost use Rattle.std.specs.Prelude.{◌≡◌, ◌+◌, ◌*◌, ◌≤◌, ◌∷◌, ◌++◌, map, length, take};
+ghost use Rattle.std.specs.Prelude.{◌≡◌, ℕ, ◌+◌, ◌*◌, ◌≤◌, ◌∷◌, ◌++◌, map, length, take};
 ghost use Rattle.frames.specs.Kinds.{kind_byte};
 ghost use Rattle.frames.specs.Outcome.{body};
 ghost use Rattle.frames.specs.Text.{sealed};
@@ -59,14 +59,13 @@ fn byte_of(eight: &[bool]) -> u8
     byte
 }
 
-/// Packs the entries of a table into the first `many` bytes, eight a byte.
-fn pack(table: &[bool], many: usize, bytes: &mut [u8; 512])
-    requires { (many ≤ 512) × (8 * many ≤ length table.now + 7) }
-    ensures { take many bytes.new ≡ map byte_of (parts 8 many table.now) }
+/// Packs the entries of a table into the first bytes, eight a byte.
+fn pack(table: &[bool], bytes: &mut [u8; 512])
+    requires { length table.now ≤ 4096 }
+    ensures { (many : ℕ) → length table.now ≤ 8 * many → 8 * many ≤ length table.now + 7 → take many bytes.new ≡ map byte_of (parts 8 many table.now) }
 {
-    for i in 0..many {
-        let end = table.len().min(8 * i + 8);
-        bytes[i] = byte_of(&table[8 * i..end]);
+    for (i, eight) in table.chunks(8).enumerate() {
+        bytes[i] = byte_of(eight);
     }
 }
 
@@ -89,12 +88,10 @@ fn put_shares(arity: Arity, bytes: &[u8], frames: &mut [Frame; 33]) -> usize
     ensures bodies { map body (take result frames.new) ≡ map body (take 1 frames.old) ++ map bits_frame (parts (share arity.n) (count arity.n) bytes.now) }
 {
     let share = arity.share();
-    let count = bytes.len() / share;
-    for k in 0..count {
-        let at = k * share;
-        frames[k + 1] = frame_of(Kind::Bits, &bytes[at..at + share]);
+    for (k, part) in bytes.chunks_exact(share).enumerate() {
+        frames[k + 1] = frame_of(Kind::Bits, part);
     }
-    count + 1
+    bytes.len() / share + 1
 }
 
 /// Writes the page of the function of n arguments with this table to the front of `out`, and answers how many bytes it
@@ -108,7 +105,7 @@ pub fn write_table(n: usize, table: &[bool], out: &mut [u8]) -> Result<usize, Ta
     let arity = Arity { n };
     let size = arity.bytes();
     let mut bytes = [0u8; 512];
-    pack(table, size, &mut bytes);
+    pack(table, &mut bytes);
     let mut frames = [frame_of(Kind::BitPage, &[n as u8]); 33];
     let len = put_shares(arity, &bytes[..size], &mut frames);
     Ok(write_frames(&frames[..len], out)?)
