@@ -1,14 +1,14 @@
 -- Tables packed into bytes, and bytes put into frames.
-use Rattle.std.proofs.Common.{◌≡◌, ℕ, suc, ◌+◌, ◌-◌, ◌*◌, ◌%◌, ◌^◌, ◌<◌, ◌≤◌, min, Bool, true, false, cond, List, [], ◌∷◌, ◌++◌, map, reverse, length, get_or, take, drop, set, sym, ap, ◌∙◌, inl, inr, mul-le-mul_right, suc-mul, arith, pow_mono}
+use Rattle.std.proofs.Common.{◌≡◌, ℕ, suc, ◌+◌, ◌*◌, ◌%◌, ◌^◌, ◌<◌, ◌≤◌, min, Bool, true, false, cond, List, [], ◌∷◌, ◌++◌, map, reverse, length, get_or, take, drop, set, sym, refl, ap, ◌∙◌, inl, inr, mul-le-mul_right, suc-mul, add-one, arith, pow_mono}
 use native.Mathlib.Nat.{two-pow-succ}
 use Rattle.std.proofs.lemmas.Nat.{one_shl}
-use Rattle.std.proofs.lemmas.List.{append_assoc, length-drop, length-reverse, length-take-le, map_push, reverse-append, take_all, take_more, take_more_set}
+use Rattle.std.proofs.lemmas.List.{append_assoc, length-append, length-drop, length-reverse, length-take-le, map_push, reverse-append, drop-drop, drop_all, drop_at, take_all, take_at, take_more, take_more_set}
 use Rattle.std.proofs.lemmas.Bool.{cases_lt}
 use Rattle.functions.specs.Words.{number}
 use Rattle.bitpages.specs.Table.{size, share, count, parts, byte_of}
 use Rattle.bitpages.proofs.Entries.{byte_of-below}
 use Rattle.bitpages.proofs.Parts.{parts_more}
-use Rattle.bitpages.proofs.Sizes.{whole}
+use Rattle.bitpages.proofs.Sizes.{share-low, whole}
 
 -- a byte with one entry more
 number_cons : (b : Bool) (xs : List Bool) → number (b ∷ xs) ≡ number xs + cond b (2 ^ length xs) 0
@@ -35,16 +35,35 @@ module _ (es : List Bool) (j : ℕ) (h : j < length es) where
   pub byte_of_skip : get_or es j false ≡ false → byte_of (take j es) ≡ byte_of (take (j + 1) es)
   byte_of_skip e = let m = rw e at byte_of-more in omega arith
 
--- eight entries of a table, or those that are left
-pub eight : (es : List Bool) (i end : ℕ) → end ≡ min (length es) (8 * i + 8) → take (end - 8 * i) (drop (8 * i) es) ≡ take 8 (drop (i * 8) es)
-eight es i end e =
-    let l = length-drop (8 * i) es in
-    let k : 8 * i ≡ i * 8 = omega arith in
-    let s : take (end - 8 * i) (drop (8 * i) es) ≡ take 8 (drop (8 * i) es) = elim (cases_lt (length es) (8 * i + 8)) [
-      | inl few ↦ take_all (end - 8 * i) (drop (8 * i) es) (omega arith) ∙ sym (take_all 8 (drop (8 * i) es) (omega arith))
-      | inr many ↦ let q : end - 8 * i ≡ 8 = omega arith in ap (λ (k : ℕ). take k (drop (8 * i) es)) q
-    ] in
-    s ∙ ap (λ (k : ℕ). take 8 (drop k es)) k
+-- a part at the front of a list, and what is left after it
+module _ {X : Type 0} (s : ℕ) (rest part more : List X) (cut : rest ≡ part ++ more) (long : length part ≡ min s (length rest)) where
+  part-front : part ≡ take s rest
+  part-front =
+      let e : take (length part) rest ≡ part = ap (take (length part)) cut ∙ take_at part more (length part) refl in
+      sym e ∙ elim (cases_lt (length rest) s) [
+        | inl few ↦ take_all (length part) rest (omega arith) ∙ sym (take_all s rest (omega arith))
+        | inr many ↦ let l : length part ≡ s = omega arith in ap (λ (k : ℕ). take k rest) l
+      ]
+
+  part-past : more ≡ drop s rest
+  part-past =
+      let e : drop (length part) rest ≡ more = ap (drop (length part)) cut ∙ drop_at part more (length part) refl in
+      sym e ∙ elim (cases_lt (length rest) s) [
+        | inl few ↦ drop_all (length part) rest (omega arith) ∙ sym (drop_all s rest (omega arith))
+        | inr many ↦ let l : length part ≡ s = omega arith in ap (λ (k : ℕ). drop k rest) l
+      ]
+
+  -- where the list is what is left after k such parts of another
+  module _ (k : ℕ) (xs : List X) (at : rest ≡ drop (k * s) xs) where
+    pub part_is : part ≡ take s (drop (k * s) xs)
+    part_is = part-front ∙ ap (take s) at
+
+    pub part_rest : more ≡ drop ((k + 1) * s) xs
+    part_rest = let e : k * s + s ≡ (k + 1) * s = omega (arith, ap (λ (j : ℕ). j * s) (add-one k), suc-mul k s) in part-past ∙ ap (drop s) at ∙ drop-drop s (k * s) xs ∙ ap (λ (j : ℕ). drop j xs) e
+
+-- a whole part at the front is as long as a part there can be
+pub front-long : {X : Type 0} (s : ℕ) (rest part more : List X) → rest ≡ part ++ more → length part ≡ s → length part ≡ min s (length rest)
+front-long s rest part more cut long = omega (arith, ap length cut, length-append part more)
 
 -- one part more, where f is what the places of an array hold of the parts
 pub part_more : {X Y Z : Type 0} (f : Y → Z) (g : List X → Z) (s k : ℕ) (xs : List X) (ys : List Y) (y : Y) (front : List Z) (at : ℕ) → at < length ys → map f (take at ys) ≡ front ++ map g (parts s k xs) → f y ≡ g (take s (drop (k * s) xs))
@@ -60,3 +79,17 @@ part_more {X} {Y} {Z} f g s k xs ys y front at h before is =
 -- every share lies within the bytes
 pub share-room : (n k : ℕ) → k < count n → k * share n + share n ≤ size n
 share-room n k h = omega (arith, mul-le-mul_right (share n) h, suc-mul k (share n), whole n)
+
+-- and a share at the front of what is left after k others is one of those that are counted
+pub share-next : (n k : ℕ) (bs rest part more : List ℕ) → length bs ≡ size n → rest ≡ drop (k * share n) bs → rest ≡ part ++ more → length part ≡ share n → k < count n
+share-next n k bs rest part more long at cut wide = elim (cases_lt k (count n)) [
+  | inl l ↦ l
+  | inr l ↦ absurd (omega (arith, length-drop (k * share n) bs, ap length at, ap length cut, length-append part more, mul-le-mul_right (share n) l, whole n, share-low n))
+]
+
+-- after which there are all where no share is left
+pub share-last : (n k : ℕ) (bs rest : List ℕ) → length bs ≡ size n → rest ≡ drop (k * share n) bs → length rest < share n → k ≤ count n → k ≡ count n
+share-last n k bs rest long at short most = elim (cases_lt k (count n)) [
+  | inl l ↦ absurd (omega (arith, length-drop (k * share n) bs, ap length at, share-room n k l))
+  | inr l ↦ omega arith
+]

@@ -4,24 +4,20 @@ use Rattle.std.proofs.lemmas.List.{append-nil, drop_at, get_or_append_left, get_
 use Rattle.std.proofs.lemmas.Bool.{cases_lt, cond-true, cond-false, and_from, and_parts, le-leb, leb-true}
 use Rattle.std.proofs.lemmas.Bool.Decides.{nat_tests}
 use Rattle.frames.specs.declared.kinds.Kind.TheVariants.{BitPage, Bits}
-use Rattle.frames.specs.Outcome.{Outcome, reading, past, line_after}
+use Rattle.frames.specs.Outcome.{Outcome, past, line_after}
 use Rattle.frames.specs.Text.{Bytes, line_text, text, sealed}
 use Rattle.frames.proofs.RoundTrip.{past-line}
 use Rattle.frames.proofs.Seals.{front_bytes}
-use Rattle.frames.proofs.Telling.{pass_true, pass_false, recorded-told, anything-gone}
+use Rattle.frames.proofs.Pages.{onward-told, ended-told}
+use Rattle.frames.proofs.Telling.{pass_true, pass_false, recorded-told}
 use Rattle.bitpages.specs.Table.{Table, share, count, spare, entries, parts, table_bytes}
-use Rattle.frames.specs.Records.{Got, got, gone, bad, due, recorded, anything}
-use Rattle.bitpages.specs.Page.{headed, heading, carried, filled, bits, Page, page, refused, onward, shares, paged, closed, ended, alone}
+use Rattle.frames.specs.Pages.{page, onward, ended}
+use Rattle.frames.specs.Records.{Got, got, due, recorded}
+use Rattle.bitpages.specs.Page.{headed, heading, carried, filled, bits, Packed, packed, shares, paged}
 use Rattle.bitpages.specs.Written.{heading_frame, bits_frame, page_frames, table_text, PageLaws}
 use Rattle.bitpages.proofs.Sizes.{size_small, share-low, whole, count_low}
 use Rattle.bitpages.proofs.Entries.{TableBytes, spare-none, written_entries, table-bytes, table-entries, bytes-entries}
 use Rattle.frames.proofs.Forms.{line-past, bytes-append, due-front, due-told}
-
--- the record with which a page went on that was read
-onward-told : {X : Type 0} (line : ℕ) (g : Got X) (next : X → Page) (n : ℕ) (ds rest : List ℕ) (after : ℕ) → onward line g next ≡ page n ds rest after → (x : X) × (g ≡ got x) × (next x ≡ page n ds rest after)
-onward-told line (got x) next n ds rest after e = (x, refl, e)
-onward-told line gone next n ds rest after e = let z : ◌≡◌ {A = ℕ} 0 1 = cc in absurd (omega arith)
-onward-told line (bad w v) next n ds rest after e = let z : ◌≡◌ {A = ℕ} 0 1 = cc in absurd (omega arith)
 
 -- the frame that carries a share
 module _ (n : ℕ) where
@@ -60,11 +56,11 @@ module _ (n : ℕ) where
   shares_text k ds = text (map bits_frame (parts (share n) k ds))
 
   shares-front : (k : ℕ) (acc ds rest : List ℕ) (line : ℕ) → length ds ≡ k * share n → Bytes ds → ((j : ℕ) → spare n (get_or ds j 0) ≡ false)
-      → shares n k acc (shares_text k ds ++ rest) line ≡ page n (acc ++ ds) rest (line + k)
+      → shares n k acc (shares_text k ds ++ rest) line ≡ page (packed n (acc ++ ds)) rest (line + k)
   shares-front zero acc ds rest line long bytes clear =
       let d : acc ≡ acc ++ ds = sym (append-nil acc) ∙ ap (λ (t : List ℕ). acc ++ t) (sym (nil_from_length ds (long ∙ zero-mul (share n)))) in
       let l : line ≡ line + 0 = omega arith in
-      ap (λ (t : List ℕ). page n t rest line) d ∙ ap (page n (acc ++ ds) rest) l
+      ap (λ (t : List ℕ). page (packed n t) rest line) d ∙ ap (page (packed n (acc ++ ds)) rest) l
   shares-front (suc k) acc ds rest line long bytes clear =
       let es = take (share n) ds in
       let more = shares_text k (drop (share n) ds) ++ rest in
@@ -81,8 +77,8 @@ module _ (n : ℕ) where
       ∙ ap (λ (t : List ℕ). shares n k (acc ++ es) t (line_after xs line)) (past-line (bits_frame es) more)
       ∙ ap (shares n k (acc ++ es) more) (line-past (bits_frame es) more line)
       ∙ r
-      ∙ ap (λ (t : List ℕ). page n t rest (line + 1 + k)) all
-      ∙ ap (page n (acc ++ ds) rest) l
+      ∙ ap (λ (t : List ℕ). page (packed n t) rest (line + 1 + k)) all
+      ∙ ap (page (packed n (acc ++ ds)) rest) l
 
   -- what the frames are that were read, k of them
   record Told (k : ℕ) (acc xs : List ℕ) (m : ℕ) (ds rest : List ℕ) : Type 0 where
@@ -95,12 +91,13 @@ module _ (n : ℕ) where
     starts : xs ≡ shares_text k new ++ rest
 
   module _ (m : ℕ) (ds rest : List ℕ) (after : ℕ) where
-    shares-told : (k : ℕ) (acc xs : List ℕ) (line : ℕ) → shares n k acc xs line ≡ page m ds rest after → Told k acc xs m ds rest
+    shares-told : (k : ℕ) (acc xs : List ℕ) (line : ℕ) → shares n k acc xs line ≡ page (packed m ds) rest after → Told k acc xs m ds rest
     shares-told zero acc xs line e =
-        let d : ds ≡ acc = cc in
+        let p : packed m ds ≡ packed n acc = cc in
+        let d : ds ≡ acc = ap (λ (d : Packed). d.bytes) p in
         let y : xs ≡ rest = cc in
         record {
-          same = cc;
+          same = ap (λ (d : Packed). d.arity) p;
           new = [];
           all = d ∙ sym (append-nil acc);
           long = sym (zero-mul (share n));
@@ -109,7 +106,7 @@ module _ (n : ℕ) where
           starts = y;
         }
     shares-told (suc k) acc xs line e =
-        let o = onward-told line (bits n xs line) (λ es. shares n k (acc ++ es) (past xs) (line_after xs line)) m ds rest after e in
+        let o = onward-told line (bits n xs line) (λ es. shares n k (acc ++ es) (past xs) (line_after xs line)) (packed m ds) rest after e in
         let es = o.0 in
         let s = bits-told n xs es line o.1 in
         let t = shares-told k (acc ++ es) (past xs) (line_after xs line) o.2 in
@@ -158,7 +155,7 @@ clear_each n ds t (suc j) = elim (cases_lt n 3) [
 ]
 
 -- the whole page
-page-front : (n : ℕ) (ds rest : List ℕ) (line : ℕ) → TableBytes n ds → paged (text (page_frames n ds) ++ rest) line ≡ page n ds rest (line + (count n + 1))
+page-front : (n : ℕ) (ds rest : List ℕ) (line : ℕ) → TableBytes n ds → paged (text (page_frames n ds) ++ rest) line ≡ page (packed n ds) rest (line + (count n + 1))
 page-front n ds rest line t =
     let f = heading_frame n in
     let more = shares_text n (count n) ds ++ rest in
@@ -169,14 +166,14 @@ page-front n ds rest line t =
     ∙ ap (λ (y : List ℕ). shares n (count n) [] y (line_after xs line)) (past-line f more)
     ∙ ap (shares n (count n) [] more) (line-past f more line)
     ∙ shares-front n (count n) [] ds rest (line + 1) (t.long ∙ sym (whole n)) t.bytes (clear_each n ds t)
-    ∙ ap (page n ds rest) l
+    ∙ ap (page (packed n ds) rest) l
 
 -- xs begins with the page of n arguments with the bytes ds, and rest follows it
 pub record Begun (n : ℕ) (xs ds rest : List ℕ) : Type 0 where
   pub table : TableBytes n ds
   pub starts : xs ≡ text (page_frames n ds) ++ rest
 
-begun : (m n : ℕ) (xs ds rest : List ℕ) (line after : ℕ) → heading xs line ≡ got m → shares m (count m) [] (past xs) (line_after xs line) ≡ page n ds rest after → Begun n xs ds rest
+begun : (m n : ℕ) (xs ds rest : List ℕ) (line after : ℕ) → heading xs line ≡ got m → shares m (count m) [] (past xs) (line_after xs line) ≡ page (packed n ds) rest after → Begun n xs ds rest
 begun m n xs ds rest line after is e =
     let h = heading-told xs line m is in
     let t = shares-told m n ds rest after (count m) [] (past xs) (line_after xs line) e in
@@ -186,35 +183,19 @@ begun m n xs ds rest line after is e =
     } in
     rw (t.same, t.all) b
 
-pub page-told : (n : ℕ) (xs ds rest : List ℕ) (line after : ℕ) → paged xs line ≡ page n ds rest after → Begun n xs ds rest
+pub page-told : (n : ℕ) (xs ds rest : List ℕ) (line after : ℕ) → paged xs line ≡ page (packed n ds) rest after → Begun n xs ds rest
 page-told n xs ds rest line after e =
-    let o = onward-told line (heading xs line) (λ m. shares m (count m) [] (past xs) (line_after xs line)) n ds rest after e in
+    let o = onward-told line (heading xs line) (λ m. shares m (count m) [] (past xs) (line_after xs line)) (packed n ds) rest after e in
     begun o.0 n xs ds rest line after o.1 o.2
-
--- a page that must be the last
-closed-told : (m n : ℕ) (es xs ds rest : List ℕ) (line after : ℕ) (g : Got (List ℕ)) → anything xs line ≡ g → closed m es xs line g ≡ page n ds rest after → (page m es xs line ≡ page n ds rest after) × (xs ≡ [])
-closed-told m n es xs ds rest line after gone is e = (e, anything-gone xs line (reading xs line) refl is)
-closed-told m n es xs ds rest line after (got f) is e = let z : ◌≡◌ {A = ℕ} 0 1 = cc in absurd (omega arith)
-closed-told m n es xs ds rest line after (bad w v) is e = let z : ◌≡◌ {A = ℕ} 0 1 = cc in absurd (omega arith)
-
-ended-told : (n : ℕ) (ds rest : List ℕ) (after : ℕ) (p : Page) → ended p ≡ page n ds rest after → (p ≡ page n ds rest after) × (rest ≡ [])
-ended-told n ds rest after (page m es xs line) e =
-    let h = closed-told m n es xs ds rest line after (anything xs line) refl e in
-    let y : xs ≡ rest = cc h.0 in
-    (h.0, sym y ∙ h.1)
-ended-told n ds rest after (refused w v) e = let z : ◌≡◌ {A = ℕ} 0 1 = cc in absurd (omega arith)
-
-alone-told : (n : ℕ) (xs ds rest : List ℕ) (line after : ℕ) → alone xs line ≡ page n ds rest after → (paged xs line ≡ page n ds rest after) × (rest ≡ [])
-alone-told n xs ds rest line after e = ended-told n ds rest after (paged xs line) e
 
 pub page_laws : PageLaws
 page_laws =
-    let reads : (n : ℕ) (es : List Bool) (rest : List ℕ) (line : ℕ) → Table n es → paged (table_text n es ++ rest) line ≡ page n (table_bytes n es) rest (line + (count n + 1)) = λ n es rest line t. page-front n (table_bytes n es) rest line (table-bytes n es t) in
-    let written : (n : ℕ) (xs ds rest : List ℕ) (line after : ℕ) → paged xs line ≡ page n ds rest after → Table n (entries n ds) × (xs ≡ table_text n (entries n ds) ++ rest) = λ n xs ds rest line after e. let r = page-told n xs ds rest line after e in (table-entries n ds r.table, r.starts ∙ ap (λ (cs : List ℕ). text (page_frames n cs) ++ rest) (sym (bytes-entries n ds r.table))) in
+    let reads : (n : ℕ) (es : List Bool) (rest : List ℕ) (line : ℕ) → Table n es → paged (table_text n es ++ rest) line ≡ page (packed n (table_bytes n es)) rest (line + (count n + 1)) = λ n es rest line t. page-front n (table_bytes n es) rest line (table-bytes n es t) in
+    let written : (n : ℕ) (xs ds rest : List ℕ) (line after : ℕ) → paged xs line ≡ page (packed n ds) rest after → Table n (entries n ds) × (xs ≡ table_text n (entries n ds) ++ rest) = λ n xs ds rest line after e. let r = page-told n xs ds rest line after e in (table-entries n ds r.table, r.starts ∙ ap (λ (cs : List ℕ). text (page_frames n cs) ++ rest) (sym (bytes-entries n ds r.table))) in
     record {
       written_reads = reads;
       written_entries = written_entries;
       read_is_written = written;
       written_loads = λ n es line t. ap ended (ap (λ (y : List ℕ). paged y line) (sym (append-nil (table_text n es))) ∙ reads n es [] line t);
-      loaded_is_written = λ n xs ds rest line after e. let a = alone-told n xs ds rest line after e in let r = written n xs ds rest line after a.0 in (r.0, r.1 ∙ ap (λ (y : List ℕ). table_text n (entries n ds) ++ y) a.1 ∙ append-nil (table_text n (entries n ds)));
+      loaded_is_written = λ n xs ds rest line after e. let a = ended-told (paged xs line) (packed n ds) rest after e in let r = written n xs ds rest line after a.0 in (r.0, r.1 ∙ ap (λ (y : List ℕ). table_text n (entries n ds) ++ y) a.1 ∙ append-nil (table_text n (entries n ds)));
     }

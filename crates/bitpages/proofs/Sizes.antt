@@ -58,3 +58,10 @@ size_full n h = let k : n ≡ 3 + (n - 3) = omega arith in ap (λ (j : ℕ). 2 ^
 -- one byte holds fewer
 pub size_small : (n : ℕ) → n < 3 → size n ≡ 1
 size_small n h = let k : n - 3 ≡ 0 = omega arith in ap (λ (j : ℕ). 2 ^ j) k
+
+-- and no byte is left without entries
+pub size-tight : (n : ℕ) → 8 * size n ≤ 2 ^ n + 7
+size-tight n = elim (cases_lt n 3) [
+  | inl small ↦ omega (arith, size_small n small, pow_pos n)
+  | inr large ↦ omega (arith, size_full n large)
+]

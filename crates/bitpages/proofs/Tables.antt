@@ -1,20 +1,20 @@
 -- Tables that hold pages.
-use Rattle.std.proofs.Common.{◌≡◌, ℕ, ◌-◌, ◌^◌, ◌<◌, ◌≤◌, Bool, false, List, [], length, get_or, take, IfOk, Ok, Err, Result, sym, refl, ap, ◌∙◌, inl, inr, arith, pow_mono}
+use Rattle.std.proofs.Common.{◌≡◌, ℕ, ◌^◌, ◌<◌, ◌≤◌, Bool, false, List, [], length, get_or, take, IfOk, Ok, Err, Result, sym, refl, ap, ◌∙◌, subst, inl, inr, arith, pow_mono}
 use Rattle.std.proofs.lemmas.List.{ext_get_or, get_or_past, get_or-take, length-take-le}
 use Rattle.std.proofs.lemmas.Bool.{cases_lt}
 use Rattle.frames.specs.declared.faults.PageFault.{PageFault}
+use Rattle.functions.specs.Functions.{Fn, tree}
 use Rattle.functions.proofs.Rows.{tree-same}
 use Rattle.bitpages.specs.Calls.{Holds, Filled}
-use Rattle.frames.specs.Records.{gone, anything}
-use Rattle.frames.proofs.Telling.{anything-gone}
-use Rattle.bitpages.specs.Page.{page, paged, closed, ended, alone}
-use Rattle.bitpages.specs.Table.{size, entry_at, entries}
+use Rattle.frames.specs.Pages.{page}
+use Rattle.bitpages.specs.Page.{Packed, packed, paged, alone}
+use Rattle.bitpages.specs.Table.{size, entry_at, entries, meant}
 use Rattle.bitpages.specs.Written.{table_text}
 use Rattle.bitpages.proofs.Entries.{entry_at_clear, length-entries, get_or-entries}
 use Rattle.bitpages.proofs.Pages.{page_laws, page-told}
 
 -- a table whose entries are those of the first bytes of a buffer, into which a page was read, holds the page
-pub holds : (n : ℕ) (xs bytes rest : List ℕ) (line after k : ℕ) (table : List Bool) → paged xs line ≡ page n (take (size n) bytes) rest after → k - 0 ≡ size n → length table ≡ 4096 → ((i : ℕ) → i < 4096 → get_or table i false ≡ entry_at (take (k - 0) bytes) i)
+holds : (n : ℕ) (xs bytes rest : List ℕ) (line after k : ℕ) (table : List Bool) → paged xs line ≡ page (packed n (take (size n) bytes)) rest after → k ≡ size n → length table ≡ 4096 → ((i : ℕ) → i < 4096 → get_or table i false ≡ entry_at (take (k) bytes) i)
     → Holds n (take (size n) bytes) table
 holds n xs bytes rest line after k table e many long unpacked =
     let ds = take (size n) bytes in
@@ -30,12 +30,17 @@ holds n xs bytes rest line after k table e many long unpacked =
       means = tree-same n (λ i. get_or table i false) (entry_at ds) (λ i l. each i (omega arith));
     }
 
--- a page with nothing after it
-pub last : (n : ℕ) (xs ds rest : List ℕ) (line after : ℕ) → paged xs line ≡ page n ds rest after → gone ≡ anything rest after → alone xs line ≡ page n ds [] after
-last n xs ds rest line after e g =
-    ap ended e ∙ ap (closed n ds rest after) (sym g) ∙ ap (λ (y : List ℕ). page n ds y after) (anything-gone rest after _ refl (sym g))
+pub filled : (d : Packed) (n : ℕ) (xs bytes rest : List ℕ) (line after k : ℕ) (table : List Bool) → paged xs line ≡ page d rest after → d ≡ packed n (take (size n) bytes) → k ≡ size n → length table ≡ 4096 → ((i : ℕ) → i < 4096 → get_or table i false ≡ entry_at (take k bytes) i)
+    → (n ≡ d.arity) × Holds d.arity d.bytes table
+filled d n xs bytes rest line after k table e is many long unpacked =
+    subst (λ (d : Packed). (n ≡ d.arity) × Holds d.arity d.bytes table) (sym is) (refl, holds n xs bytes rest line after k table (e ∙ ap (λ (d : Packed). page d rest after) is) many long unpacked)
 
 -- a text that loads is the text of the table that it loads
 pub loaded_text : (xs : List ℕ) (before after : List Bool) (r : Result ℕ PageFault) → (line : ℕ) × Filled (alone xs 1) [] line before after r → IfOk r (λ n. xs ≡ table_text n (take (2 ^ n) after))
-loaded_text xs before after (Ok n) (line, (ds, e, h)) = (page_laws.loaded_is_written n xs ds [] 1 line e).1 ∙ ap (table_text n) (sym h.front)
+loaded_text xs before after (Ok n) (line, (d, e, h)) =
+    subst (λ (k : ℕ). xs ≡ table_text k (take (2 ^ k) after)) (sym h.0) ((page_laws.loaded_is_written d.arity xs d.bytes [] 1 line e).1 ∙ ap (table_text d.arity) (sym h.1.front))
 loaded_text xs before after (Err e) f = tt
+
+-- and its chart has the function that the page means
+pub charted : (d : Packed) (n : ℕ) (table : List Bool) (f : Fn) → f ≡ tree n (λ i. get_or table i false) → n ≡ d.arity → Holds d.arity d.bytes table → f ≡ meant d.arity d.bytes
+charted d n table f e m h = e ∙ ap (λ (k : ℕ). tree k (λ i. get_or table i false)) m ∙ h.means

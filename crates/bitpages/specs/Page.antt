@@ -1,13 +1,11 @@
 -- What a bit page is: a heading 03 with its number of arguments, and frames 04 that carry its table.
 use Rattle.std.specs.Prelude.{ℕ, zero, suc, ◌+◌, cond, ◌&&◌, List, [], ◌++◌, take, drop, nat_le, slice_index}
-use Rattle.frames.specs.declared.faults.FaultNumbers.{FaultNumbers}
-use Rattle.frames.specs.declared.faults.PageFault.{PageFault}
-use Rattle.frames.specs.declared.faults.PageFault.TheVariants.{Record, Missing, Surplus}
 use Rattle.frames.specs.declared.faults.RecordFault.TheVariants.{OutOfRange, BadPlace}
 use Rattle.frames.specs.declared.kinds.Kind.TheVariants.{BitPage, Bits}
 use Rattle.frames.specs.Numbers.{numbers}
 use Rattle.frames.specs.Outcome.{past, line_after}
-use Rattle.frames.specs.Records.{Got, got, gone, bad, due, recorded, anything}
+use Rattle.frames.specs.Pages.{Page, page, onward, ended}
+use Rattle.frames.specs.Records.{Got, got, bad, due, recorded}
 use Rattle.bitpages.specs.Table.{share, count, spare}
 
 -- the number of arguments that the field of a heading gives, where it is 1 to 12
@@ -30,37 +28,24 @@ filled n line bs = cond (spare n (slice_index bs 1)) (bad (numbers 2 5 line 0) (
 abbrev pub bits : ℕ → List ℕ → ℕ → Got (List ℕ)
 bits n xs line = recorded (due Bits (share n + 2) xs line) (filled n line)
 
--- what a page reads as: its number of arguments and its bytes, with the text and the line that follow it, or what is wrong
-pub data Page : Type 0 where
-  page : ℕ → List ℕ → List ℕ → ℕ → Page
-  refused : FaultNumbers → PageFault → Page
+-- the value of a page: its number of arguments, and its bytes
+pub record Packed : Type 0 where
+  pub arity : ℕ
+  pub bytes : List ℕ
 
--- a page whose next record, at this line, is due: how it goes on with the record's value
-abbrev pub onward : {X : Type 0} → ℕ → Got X → (X → Page) → Page
-onward line (got x) next = next x
-onward line gone next = refused (numbers 3 8 line 0) (Missing line)
-onward line (bad w e) next = refused w (Record e)
+-- n arguments, and these bytes
+abbrev pub packed : ℕ → List ℕ → Packed
+packed n ds = record { arity = n; bytes = ds }
 
 -- a page of n arguments that has these bytes already, and of which k frames are left
-abbrev pub shares : ℕ → ℕ → List ℕ → List ℕ → ℕ → Page
-shares n zero ds xs line = page n ds xs line
+abbrev pub shares : ℕ → ℕ → List ℕ → List ℕ → ℕ → Page Packed
+shares n zero ds xs line = page (packed n ds) xs line
 shares n (suc k) ds xs line = onward line (bits n xs line) (λ es. shares n k (ds ++ es) (past xs) (line_after xs line))
 
 -- the page at the start of a text, whose first line has this number; what follows it is not looked at
-abbrev pub paged : List ℕ → ℕ → Page
+abbrev pub paged : List ℕ → ℕ → Page Packed
 paged xs line = onward line (heading xs line) (λ n. shares n (count n) [] (past xs) (line_after xs line))
 
--- a page that the text must end with, by what follows it
-abbrev pub closed : ℕ → List ℕ → List ℕ → ℕ → Got (List ℕ) → Page
-closed n ds xs line gone = page n ds xs line
-closed n ds xs line (got bs) = refused (numbers 3 8 line 0) (Surplus line)
-closed n ds xs line (bad w e) = refused w (Record e)
-
--- the same of what a page reads as
-abbrev pub ended : Page → Page
-ended (page n ds xs line) = closed n ds xs line (anything xs line)
-ended (refused w e) = refused w e
-
 -- the page that a whole text is
-abbrev pub alone : List ℕ → ℕ → Page
+abbrev pub alone : List ℕ → ℕ → Page Packed
 alone xs line = ended (paged xs line)

@@ -2,9 +2,10 @@
 use Rattle.std.specs.Prelude.{◌≡◌, ℕ, ◌+◌, Bool, List, [], ◌∷◌, ◌++◌, map}
 use Rattle.frames.specs.declared.kinds.Kind.TheVariants.{BitPage, Bits}
 use Rattle.frames.specs.Kinds.{kind_byte}
+use Rattle.frames.specs.Pages.{page}
 use Rattle.frames.specs.Text.{sealed, text}
 use Rattle.bitpages.specs.Table.{Table, share, count, entries, parts, table_bytes}
-use Rattle.bitpages.specs.Page.{page, paged, alone}
+use Rattle.bitpages.specs.Page.{packed, paged, alone}
 
 -- the heading of n arguments
 abbrev pub heading_frame : ℕ → List ℕ
@@ -29,12 +30,12 @@ table_text n es = text (table_frames n es)
 -- pages are written and read in one way
 pub record PageLaws : Type 0 where
   -- the text of a table's page, whatever follows it, reads as n and the table's bytes
-  pub written_reads : (n : ℕ) (es : List Bool) (rest : List ℕ) (line : ℕ) → Table n es → paged (table_text n es ++ rest) line ≡ page n (table_bytes n es) rest (line + (count n + 1))
+  pub written_reads : (n : ℕ) (es : List Bool) (rest : List ℕ) (line : ℕ) → Table n es → paged (table_text n es ++ rest) line ≡ page (packed n (table_bytes n es)) rest (line + (count n + 1))
   -- of which the entries are the table
   pub written_entries : (n : ℕ) (es : List Bool) → Table n es → entries n (table_bytes n es) ≡ es
   -- what reads as a page is the text of its entries, and what follows it
-  pub read_is_written : (n : ℕ) (xs ds rest : List ℕ) (line after : ℕ) → paged xs line ≡ page n ds rest after → Table n (entries n ds) × (xs ≡ table_text n (entries n ds) ++ rest)
+  pub read_is_written : (n : ℕ) (xs ds rest : List ℕ) (line after : ℕ) → paged xs line ≡ page (packed n ds) rest after → Table n (entries n ds) × (xs ≡ table_text n (entries n ds) ++ rest)
   -- a text that is the page of a table is that page
-  pub written_loads : (n : ℕ) (es : List Bool) (line : ℕ) → Table n es → alone (table_text n es) line ≡ page n (table_bytes n es) [] (line + (count n + 1))
+  pub written_loads : (n : ℕ) (es : List Bool) (line : ℕ) → Table n es → alone (table_text n es) line ≡ page (packed n (table_bytes n es)) [] (line + (count n + 1))
   -- and no other text is
-  pub loaded_is_written : (n : ℕ) (xs ds rest : List ℕ) (line after : ℕ) → alone xs line ≡ page n ds rest after → Table n (entries n ds) × (xs ≡ table_text n (entries n ds))
+  pub loaded_is_written : (n : ℕ) (xs ds rest : List ℕ) (line after : ℕ) → alone xs line ≡ page (packed n ds) rest after → Table n (entries n ds) × (xs ≡ table_text n (entries n ds))

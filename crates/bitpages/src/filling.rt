@@ -1,6 +1,6 @@
 //! Bit charts from bit pages.
 
-ghost use Rattle.std.specs.Prelude.{◌≡◌, ℕ, ◌^◌, ◌≤◌, false, [], slice_index_or};
+ghost use Rattle.std.specs.Prelude.{◌≡◌, ℕ, false, [], slice_index_or};
 ghost use Rattle.charts.specs.BitCharts.{bit_function};
 ghost use Rattle.functions.specs.Functions.{tree};
 ghost use Rattle.frames.specs.Reading.{left};
@@ -8,26 +8,16 @@ ghost use Rattle.bitpages.specs.Calls.{Charted};
 ghost use Rattle.bitpages.specs.Page.{paged, alone};
 
 use crate::loading::{load_table, read_table};
-use bits::power;
+use crate::records::Arity;
 use charts::BitChart;
 use frames::faults::PageFault;
 use frames::reader::FrameReader;
 
-/// How many entries a table of n arguments has.
-fn entry_count(n: usize) -> usize
-    requires { n ≤ 12 }
-    ensures value { result ≡ 2 ^ n }
-    ensures bound { result ≤ 4096 }
+/// The chart of the function with the first entries of a table.
+fn chart_of(arity: Arity, table: &[bool; 4096]) -> BitChart
+    ensures { bit_function result ≡ tree arity.n (λ i. slice_index_or table.now i false) }
 {
-    power(n)
-}
-
-/// The chart of the function of n arguments with the first 2^n entries of a table.
-fn chart_of(n: usize, table: &[bool; 4096]) -> BitChart
-    requires { n ≤ 12 }
-    ensures { bit_function result ≡ tree n (λ i. slice_index_or table.now i false) }
-{
-    BitChart::with_entries(n, &table[0..entry_count(n)]).unwrap()
+    BitChart::with_entries(arity.n, &table[..arity.entries()]).unwrap()
 }
 
 /// Fills a chart with the function of the page at which a reader stands; on a fault the chart is as it was.
@@ -37,7 +27,7 @@ pub fn read_chart(reader: &mut FrameReader, chart: &mut BitChart) -> Result<(), 
 {
     let mut table = [false; 4096];
     let n = read_table(reader, &mut table)?;
-    *chart = chart_of(n, &table);
+    *chart = chart_of(Arity { n }, &table);
     Ok(())
 }
 
@@ -47,6 +37,6 @@ pub fn load_chart(text: &[u8], chart: &mut BitChart) -> Result<(), PageFault>
 {
     let mut table = [false; 4096];
     let n = load_table(text, &mut table)?;
-    *chart = chart_of(n, &table);
+    *chart = chart_of(Arity { n }, &table);
     Ok(())
 }

@@ -1,30 +1,33 @@
 //! Reading bit pages into tables.
 
-ghost use Rattle.std.specs.Prelude.{◌≡◌, ℕ, ◌^◌, ◌<◌, ◌≤◌, false, [], take, IfOk, slice_index_or};
+ghost use Rattle.std.specs.Prelude.{◌≡◌, ℕ, ◌^◌, ◌<◌, false, [], take, IfOk, slice_index_or};
+ghost use Rattle.frames.specs.Pages.{ReadsPage};
 ghost use Rattle.frames.specs.Reading.{left};
-ghost use Rattle.bitpages.specs.Calls.{Carried, Taken, Filled};
-ghost use Rattle.bitpages.specs.Page.{shares, paged, alone};
-ghost use Rattle.bitpages.specs.Table.{count, bit_at, entry_at};
+ghost use Rattle.bitpages.specs.Calls.{Filled};
+ghost use Rattle.bitpages.specs.Page.{packed, shares, paged, alone};
+ghost use Rattle.bitpages.specs.Table.{size, count, entry_at};
 ghost use Rattle.bitpages.specs.Written.{table_text, PageLaws};
 
-use crate::records::{read_bits, read_heading, share_of, size_of};
+use crate::records::{Arity, read_bits, read_heading};
+use bits::bit_of;
 use frames::faults::PageFault;
 use frames::reader::FrameReader;
-use frames::records::read_any;
+use frames::records::read_end;
 
-/// Reads the frames of a page of n arguments, and puts the bytes that they carry at the front of `bytes`.
-fn read_bytes(reader: &mut FrameReader, n: usize, bytes: &mut [u8; 512]) -> Result<(), PageFault>
-    requires { n ≤ 12 }
-    ensures { Carried (shares n (count n) [] (left reader.old) reader.old.line) n reader.new bytes.new result }
+/// Reads the frames of a page, and puts the bytes that they carry at the front of `bytes`.
+fn read_bytes(
+    reader: &mut FrameReader,
+    arity: Arity,
+    bytes: &mut [u8; 512],
+) -> Result<(), PageFault>
+    ensures { ReadsPage (λ d _. d ≡ packed arity.n (take (size arity.n) bytes.new)) (shares arity.n (count arity.n) [] (left reader.old) reader.old.line) (left reader.new) reader.new.line result }
 {
-    let size = size_of(n);
-    let share = share_of(n);
+    let size = arity.bytes();
+    let share = arity.share();
     let mut at = 0;
     while at < size {
         let line = reader.line();
-        let Some(frame) = read_bits(reader, n)? else {
-            return Err(PageFault::Missing { line });
-        };
+        let frame = read_bits(reader, arity)?.ok_or(PageFault::Missing { line })?;
         bytes[at..at + share].copy_from_slice(&frame.bytes()[1..1 + share]);
         at += share;
     }
@@ -32,31 +35,22 @@ fn read_bytes(reader: &mut FrameReader, n: usize, bytes: &mut [u8; 512]) -> Resu
 }
 
 /// Reads a page, puts the bytes of its table at the front of `bytes`, and answers its number of arguments.
-fn read_page(reader: &mut FrameReader, bytes: &mut [u8; 512]) -> Result<usize, PageFault>
-    ensures { Taken (paged (left reader.old) reader.old.line) reader.new bytes.new result }
+fn read_page(reader: &mut FrameReader, bytes: &mut [u8; 512]) -> Result<Arity, PageFault>
+    ensures { ReadsPage (λ d a. d ≡ packed a.n (take (size a.n) bytes.new)) (paged (left reader.old) reader.old.line) (left reader.new) reader.new.line result }
 {
-    let first = reader.line();
-    let Some(n) = read_heading(reader)? else {
-        return Err(PageFault::Missing { line: first });
-    };
-    read_bytes(reader, n, bytes)?;
-    Ok(n)
-}
-
-/// Bit `k` of a byte, counted from the lowest.
-fn bit_of(byte: u8, k: usize) -> bool
-    requires { k < 8 }
-    ensures { result ≡ bit_at byte k }
-{
-    (byte >> k) % 2 == 1
+    let line = reader.line();
+    let n = read_heading(reader)?.ok_or(PageFault::Missing { line })?;
+    let arity = Arity { n };
+    read_bytes(reader, arity, bytes)?;
+    Ok(arity)
 }
 
 /// Sets every entry of a table to the bit that holds it, and to false where no byte does.
 fn unpack(bytes: &[u8], table: &mut [bool; 4096])
     ensures { (i : ℕ) → i < 4096 → slice_index_or table.new i false ≡ entry_at bytes.now i }
 {
-    for i in 0..4096 {
-        table[i] = i / 8 < bytes.len() && bit_of(bytes[i / 8], i % 8);
+    for (i, entry) in table.iter_mut().enumerate() {
+        *entry = i / 8 < bytes.len() && bit_of(u64::from(bytes[i / 8]), i % 8);
     }
 }
 
@@ -66,32 +60,23 @@ pub fn read_table(reader: &mut FrameReader, table: &mut [bool; 4096]) -> Result<
     ensures { Filled (paged (left reader.old) reader.old.line) (left reader.new) reader.new.line table.old table.new result }
 {
     let mut bytes = [0u8; 512];
-    let n = read_page(reader, &mut bytes)?;
-    unpack(&bytes[0..size_of(n)], table);
-    Ok(n)
-}
-
-/// The same of a page that the text must end with.
-fn read_last(reader: &mut FrameReader, table: &mut [bool; 4096]) -> Result<usize, PageFault>
-    ensures { (line : ℕ) × Filled (alone (left reader.old) reader.old.line) [] line table.old table.new result }
-{
-    let mut bytes = [0u8; 512];
-    let n = read_page(reader, &mut bytes)?;
-    let line = reader.line();
-    if read_any(reader)?.is_some() {
-        return Err(PageFault::Surplus { line });
-    }
-    unpack(&bytes[0..size_of(n)], table);
-    Ok(n)
+    let arity = read_page(reader, &mut bytes)?;
+    unpack(&bytes[..arity.bytes()], table);
+    Ok(arity.n)
 }
 
 /// Fills a table from a text that is a page and nothing else, and answers the page's number of arguments; on a fault
 /// the table is as it was. The first 2^n entries are the page's, the others false.
+#[tactic(auto, using(crate::proofs::Pages::page_laws))]
 pub fn load_table(text: &[u8], table: &mut [bool; 4096]) -> Result<usize, PageFault>
     ensures loaded { (line : ℕ) × Filled (alone text.now 1) [] line table.old table.new result }
     ensures written { IfOk result (λ n. text.now ≡ table_text n (take (2 ^ n) table.new)) }
     ensures laws { PageLaws }
 {
     let mut reader = FrameReader::new(text);
-    read_last(&mut reader, table)
+    let mut bytes = [0u8; 512];
+    let arity = read_page(&mut reader, &mut bytes)?;
+    read_end(&mut reader)?;
+    unpack(&bytes[..arity.bytes()], table);
+    Ok(arity.n)
 }

@@ -1,6 +1,6 @@
 //! Writing the bit page of a table.
 
-ghost use Rattle.std.specs.Prelude.{◌≡◌, ◌+◌, ◌*◌, ◌≤◌, ◌∷◌, ◌++◌, map, length, take};
+ghost use Rattle.std.specs.Prelude.{◌≡◌, ℕ, ◌+◌, ◌*◌, ◌≤◌, ◌∷◌, ◌++◌, map, length, take};
 ghost use Rattle.frames.specs.Kinds.{kind_byte};
 ghost use Rattle.frames.specs.Outcome.{body};
 ghost use Rattle.frames.specs.Text.{sealed};
@@ -9,7 +9,7 @@ ghost use Rattle.bitpages.specs.Table.{size, share, count, parts, byte_of};
 ghost use Rattle.bitpages.specs.Written.{bits_frame};
 ghost use Rattle.bitpages.specs.declared.writing.TableRefusal.TheVariants.{Unwritten};
 
-use crate::records::{share_of, size_of};
+use crate::records::Arity;
 use bits::power;
 use buffers::WriteRefusal;
 use frames::frame::Frame;
@@ -51,22 +51,21 @@ fn byte_of(eight: &[bool]) -> u8
     ensures { result ≡ byte_of eight.now }
 {
     let mut byte = 0;
-    for j in 0..eight.len() {
-        if eight[j] {
+    for (j, bit) in eight.iter().enumerate() {
+        if *bit {
             byte += 1 << j;
         }
     }
     byte
 }
 
-/// Packs the entries of a table into the first `many` bytes, eight a byte.
-fn pack(table: &[bool], many: usize, bytes: &mut [u8; 512])
-    requires { (many ≤ 512) × (8 * many ≤ length table.now + 7) }
-    ensures { take many bytes.new ≡ map byte_of (parts 8 many table.now) }
+/// Packs the entries of a table into the first bytes, eight a byte.
+fn pack(table: &[bool], bytes: &mut [u8; 512])
+    requires { length table.now ≤ 4096 }
+    ensures { (many : ℕ) → length table.now ≤ 8 * many → 8 * many ≤ length table.now + 7 → take many bytes.new ≡ map byte_of (parts 8 many table.now) }
 {
-    for i in 0..many {
-        let end = table.len().min(8 * i + 8);
-        bytes[i] = byte_of(&table[8 * i..end]);
+    for (i, eight) in table.chunks(8).enumerate() {
+        bytes[i] = byte_of(eight);
     }
 }
 
@@ -81,20 +80,18 @@ fn frame_of(kind: Kind, fields: &[u8]) -> Frame
     Frame::sealed(&content[0..len]).unwrap()
 }
 
-/// Puts the frames that carry the bytes of a table of n arguments behind the first of `frames`, and answers how many
-/// frames there are then.
-fn put_shares(n: usize, bytes: &[u8], frames: &mut [Frame; 33]) -> usize
-    requires { (n ≤ 12) × (length bytes.now ≡ size n) }
-    ensures many { result ≡ count n + 1 }
-    ensures bodies { map body (take result frames.new) ≡ map body (take 1 frames.old) ++ map bits_frame (parts (share n) (count n) bytes.now) }
+/// Puts the frames that carry the bytes of a table behind the first of `frames`, and answers how many frames there are
+/// then.
+fn put_shares(arity: Arity, bytes: &[u8], frames: &mut [Frame; 33]) -> usize
+    requires { length bytes.now ≡ size arity.n }
+    ensures many { result ≡ count arity.n + 1 }
+    ensures bodies { map body (take result frames.new) ≡ map body (take 1 frames.old) ++ map bits_frame (parts (share arity.n) (count arity.n) bytes.now) }
 {
-    let share = share_of(n);
-    let count = bytes.len() / share;
-    for k in 0..count {
-        let at = k * share;
-        frames[k + 1] = frame_of(Kind::Bits, &bytes[at..at + share]);
+    let share = arity.share();
+    for (k, part) in bytes.chunks_exact(share).enumerate() {
+        frames[k + 1] = frame_of(Kind::Bits, part);
     }
-    count + 1
+    bytes.len() / share + 1
 }
 
 /// Writes the page of the function of n arguments with this table to the front of `out`, and answers how many bytes it
@@ -102,13 +99,14 @@ fn put_shares(n: usize, bytes: &[u8], frames: &mut [Frame; 33]) -> usize
 pub fn write_table(n: usize, table: &[bool], out: &mut [u8]) -> Result<usize, TableRefusal>
     ensures { Put n table.now out.old out.new result }
 {
-    if n < 1 || n > 12 || table.len() != power(n) {
+    if !(1..=12).contains(&n) || table.len() != power(n) {
         return Err(TableRefusal::NoTable);
     }
-    let size = size_of(n);
+    let arity = Arity { n };
+    let size = arity.bytes();
     let mut bytes = [0u8; 512];
-    pack(table, size, &mut bytes);
+    pack(table, &mut bytes);
     let mut frames = [frame_of(Kind::BitPage, &[n as u8]); 33];
-    let len = put_shares(n, &bytes[0..size], &mut frames);
-    Ok(write_frames(&frames[0..len], out)?)
+    let len = put_shares(arity, &bytes[..size], &mut frames);
+    Ok(write_frames(&frames[..len], out)?)
 }

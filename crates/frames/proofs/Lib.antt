@@ -8,4 +8,5 @@ pub mod RoundTrip
 pub mod Forms
 pub mod Telling
 pub mod Lengths
+pub mod Pages
 pub mod HexText

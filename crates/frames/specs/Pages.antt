@@ -28,12 +28,16 @@ abbrev pub ended : {X : Type 0} → Page X → Page X
 ended (page x xs line) = closed x xs line (anything xs line)
 ended (refused w e) = refused w e
 
--- a call that reads a page, and answers what holds its value, after which the text goes on with `rest` at `line`; or a fault
-abbrev pub Reads : {X C : Type 0} → (X → C → Type 0) → Page X → List ℕ → ℕ → Result C PageFault → Type 0
-Reads {X} Holds p rest line (Ok c) = (x : X) × (p ≡ page x rest line) × Holds x c
-Reads Holds p rest line (Err e) = p ≡ refused (page_numbers e) e
+-- the end of a text, as a page of nothing
+abbrev pub ending : List ℕ → ℕ → Page (Unit {0})
+ending xs line = closed (tt {0}) xs line (anything xs line)
 
--- a call that fills something with the value of a page, after which the text goes on with `rest` at `line`; or a fault, and it is as it was
-abbrev pub Fills : {X C : Type 0} → (X → C → Type 0) → Page X → List ℕ → ℕ → C → C → Result (Unit {0}) PageFault → Type 0
-Fills {X} Holds p rest line before after (Ok u) = (x : X) × (p ≡ page x rest line) × Holds x after
+-- a call that reads a page, and answers what holds its value, after which the text goes on with `rest` at `line`; or a fault
+abbrev pub ReadsPage : {X C : Type 0} → (X → C → Type 0) → Page X → List ℕ → ℕ → Result C PageFault → Type 0
+ReadsPage {X} Holds p rest line (Ok c) = (x : X) × (p ≡ page x rest line) × Holds x c
+ReadsPage Holds p rest line (Err e) = p ≡ refused (page_numbers e) e
+
+-- a call that fills something with the value of a page and answers something of it, after which the text goes on with `rest` at `line`; or a fault, and it is as it was
+abbrev pub Fills : {X C A : Type 0} → (X → C → A → Type 0) → Page X → List ℕ → ℕ → C → C → Result A PageFault → Type 0
+Fills {X} Holds p rest line before after (Ok a) = (x : X) × (p ≡ page x rest line) × Holds x after a
 Fills Holds p rest line before after (Err e) = (p ≡ refused (page_numbers e) e) × (after ≡ before)

@@ -4,16 +4,18 @@ use Rattle.std.proofs.lemmas.List.{append-nil, drop_at, drop-take, get_or-drop, 
 use Rattle.std.proofs.lemmas.Bool.{cond-true, and_from, and_parts, le-leb, leb-true, eq-eqb, eqb-true}
 use Rattle.frames.specs.declared.kinds.Kind.TheVariants as kind
 use Rattle.frames.specs.Kinds.{kind_byte}
-use Rattle.frames.specs.Outcome.{Outcome, reading, past, line_after}
-use Rattle.frames.specs.Records.{Got, got, gone, bad, due, recorded, anything}
+use Rattle.frames.specs.Outcome.{Outcome, past, line_after}
+use Rattle.frames.specs.Pages.{Page, page, onward, ended}
+use Rattle.frames.specs.Records.{Got, got, due, recorded}
 use Rattle.frames.specs.Text.{Bytes, line_text, text, sealing, sealed}
 use Rattle.frames.proofs.Forms.{bytes-append, bytes_cons, due-front, due-told, line-past}
 use Rattle.frames.proofs.RoundTrip.{past-line}
 use Rattle.frames.proofs.Seals.{front_bytes}
-use Rattle.frames.proofs.Telling.{pass_true, recorded-told, anything-gone}
+use Rattle.frames.proofs.Pages.{onward-told, ended-told}
+use Rattle.frames.proofs.Telling.{pass_true, recorded-told}
 use Rattle.intake.specs.Laws.{IntakeLaws}
 use Rattle.intake.specs.Networks.{NetCell, Network, Pinned, Wired, WellFormed}
-use Rattle.intake.specs.Page.{Headed, in_range, headed, heading, pinned, celled, wired, cell, Intake, taken, onward, closed, cells_from, intake}
+use Rattle.intake.specs.Page.{Headed, in_range, headed, heading, pinned, celled, wired, cell, cells_from, paged, intake, taken}
 use Rattle.intake.specs.Written.{heading_frame, cell_frame, network_text}
 use Rattle.intake.proofs.Pins.{pinned_pass, pinned-long, pinned-bytes, pinned-told}
 
@@ -38,21 +40,25 @@ module _ (K size : ℕ) (few : K ≤ 5) (small : size ≤ 16) where
 
   -- the frames of cells read as the cells
   cells-front : (n : ℕ) (cs acc : List NetCell) (line : ℕ) → n ≤ 16 → length acc + length cs ≤ 48 → Wired n K size (length acc) cs
-      → cells_from n K size (length cs) acc (text (map cell_frame cs)) line ≡ taken (record { inputs = n; cells = acc ++ cs })
-  cells-front n [] acc line narrow most w = ap (λ (t : List NetCell). taken (record { inputs = n; cells = t })) (sym (append-nil acc))
+      → cells_from n K size (length cs) acc (text (map cell_frame cs)) line ≡ page (record { inputs = n; cells = acc ++ cs }) [] (line + length cs)
+  cells-front n [] acc line narrow most w =
+      let l : line ≡ line + 0 = omega arith in
+      ap (λ (t : List NetCell). page (record { inputs = n; cells = t }) [] line) (sym (append-nil acc)) ∙ ap (page (record { inputs = n; cells = acc ++ [] }) []) l
   cells-front n (c ∷ cs) acc line narrow most (p, long, bytes, w) =
       let f = cell_frame c in
       let more = text (map cell_frame cs) in
       let xs = line_text f ++ more in
-      let go : Got NetCell → List ℕ → ℕ → Intake = λ g ys next. onward line g (λ d. cells_from n K size (length cs) (acc ++ (d ∷ [])) ys next) in
+      let go : Got NetCell → List ℕ → ℕ → Page Network = λ g ys next. onward line g (λ d. cells_from n K size (length cs) (acc ++ (d ∷ [])) ys next) in
       let one : length (acc ++ (c ∷ [])) ≡ suc (length acc) = length_push acc c ∙ omega arith in
       let g : cell n K size (length acc) (line_text f ++ more) line ≡ got c = cell-front n (length acc) c more line narrow (omega arith) p long bytes in
       let r = cells-front n cs (acc ++ (c ∷ [])) (line + 1) narrow (omega arith) (rw one w) in
+      let l : line + 1 + length cs ≡ line + suc (length cs) = omega arith in
       ap (λ (o : Got NetCell). go o (past xs) (line_after xs line)) g
       ∙ ap (λ (ys : List ℕ). go (got c) ys (line_after xs line)) (past-line f more)
       ∙ ap (go (got c) more) (line-past f more line)
       ∙ r
-      ∙ ap (λ (t : List NetCell). taken (record { inputs = n; cells = t })) (append_assoc acc (c ∷ []) cs)
+      ∙ ap (λ (t : List NetCell). page (record { inputs = n; cells = t }) [] (line + 1 + length cs)) (append_assoc acc (c ∷ []) cs)
+      ∙ ap (page (record { inputs = n; cells = acc ++ (c ∷ cs) }) []) l
 
   -- the heading of a network reads as its numbers
   heading-front : (number : ℕ) (w : Network) (rest : List ℕ) (line : ℕ) → number < 256 → WellFormed K size w → heading number (line_text (heading_frame number w) ++ rest) line ≡ got (record { inputs = w.inputs; count = length w.cells })
@@ -71,24 +77,16 @@ module _ (K size : ℕ) (few : K ≤ 5) (small : size ≤ 16) where
       let h = heading_frame number w in
       let more = text (map cell_frame w.cells) in
       let xs = line_text h ++ more in
-      let go : List ℕ → ℕ → Headed → Intake = λ ys next h. cells_from h.inputs K size h.count [] ys next in
+      let go : List ℕ → ℕ → Headed → Page Network = λ ys next h. cells_from h.inputs K size h.count [] ys next in
       let g = heading-front number w more 1 byte f in
+      let l : 2 + length w.cells ≡ length w.cells + 2 = omega arith in
+      let p : paged number K size (network_text number w) 1 ≡ taken w =
       ap (λ (o : Got Headed). onward 1 o (go (past xs) (line_after xs 1))) g
       ∙ ap (λ (ys : List ℕ). go ys (line_after xs 1) (record { inputs = w.inputs; count = length w.cells })) (past-line h more)
       ∙ ap (λ (l : ℕ). go more l (record { inputs = w.inputs; count = length w.cells })) (line-past h more 1)
       ∙ cells-front w.inputs w.cells [] 2 f.narrow (omega (arith, f.most)) f.wired
-
--- the record with which a page went on that was taken
-onward-told : {X : Type 0} (line : ℕ) (g : Got X) (next : X → Intake) (w : Network) → onward line g next ≡ taken w → (x : X) × (g ≡ got x) × (next x ≡ taken w)
-onward-told line (got x) next w e = (x, refl, e)
-onward-told line gone next w e = let z : ◌≡◌ {A = ℕ} 0 1 = cc in absurd (omega arith)
-onward-told line (bad v f) next w e = let z : ◌≡◌ {A = ℕ} 0 1 = cc in absurd (omega arith)
-
--- a network with nothing after it
-closed-told : (v w : Network) (xs : List ℕ) (line : ℕ) (g : Got (List ℕ)) → anything xs line ≡ g → closed v line g ≡ taken w → (v ≡ w) × (xs ≡ [])
-closed-told v w xs line gone is e = (cc, anything-gone xs line (reading xs line) refl is)
-closed-told v w xs line (got bs) is e = let z : ◌≡◌ {A = ℕ} 0 1 = cc in absurd (omega arith)
-closed-told v w xs line (bad u f) is e = let z : ◌≡◌ {A = ℕ} 0 1 = cc in absurd (omega arith)
+      ∙ ap (page w []) l in
+      ap ended p
 
 -- of a family with K pins and so many configuration bytes
 module _ (K size : ℕ) where
@@ -118,28 +116,29 @@ module _ (K size : ℕ) where
       rw p.1 at h
 
   -- what the cells are that were read, m of them after those in acc
-  record Told (n m : ℕ) (acc : List NetCell) (xs : List ℕ) (w : Network) : Type 0 where
+  record Told (n m : ℕ) (acc : List NetCell) (xs rest : List ℕ) (w : Network) : Type 0 where
     new : List NetCell
     all : w ≡ record { inputs = n; cells = acc ++ new }
     long : length new ≡ m
     wires : Wired n K size (length acc) new
-    starts : xs ≡ text (map cell_frame new)
+    starts : xs ≡ text (map cell_frame new) ++ rest
 
-  cells_told : (n m : ℕ) (acc : List NetCell) (xs : List ℕ) (line : ℕ) (w : Network) → cells_from n K size m acc xs line ≡ taken w → Told n m acc xs w
-  cells_told n zero acc xs line w e =
-      let h = closed-told (record { inputs = n; cells = acc }) w xs line (anything xs line) refl e in
+  cells_told : (n m : ℕ) (acc : List NetCell) (xs rest : List ℕ) (line after : ℕ) (w : Network) → cells_from n K size m acc xs line ≡ page w rest after → Told n m acc xs rest w
+  cells_told n zero acc xs rest line after w e =
+      let h : record { inputs = n; cells = acc } ≡ w = cc in
+      let s : xs ≡ rest = cc in
       record {
         new = [];
-        all = sym h.0 ∙ ap (λ (t : List NetCell). record { inputs = n; cells = t }) (sym (append-nil acc));
+        all = sym h ∙ ap (λ (t : List NetCell). record { inputs = n; cells = t }) (sym (append-nil acc));
         long = refl;
         wires = tt;
-        starts = h.1;
+        starts = s;
       }
-  cells_told n (suc m) acc xs line w e =
-      let o = onward-told line (cell n K size (length acc) xs line) (λ c. cells_from n K size m (acc ++ (c ∷ [])) (past xs) (line_after xs line)) w e in
+  cells_told n (suc m) acc xs rest line after w e =
+      let o = onward-told line (cell n K size (length acc) xs line) (λ c. cells_from n K size m (acc ++ (c ∷ [])) (past xs) (line_after xs line)) w rest after e in
       let c = o.0 in
       let h = cell-told n (length acc) xs line c o.1 in
-      let t = cells_told n m (acc ++ (c ∷ [])) (past xs) (line_after xs line) w o.2 in
+      let t = cells_told n m (acc ++ (c ∷ [])) (past xs) rest (line_after xs line) after w o.2 in
       let one : length (acc ++ (o.0 ∷ [])) ≡ suc (length acc) = length_push acc c ∙ omega arith in
       let ws = t.wires in
       record {
@@ -147,7 +146,7 @@ module _ (K size : ℕ) where
         all = t.all ∙ ap (λ (cs : List NetCell). record { inputs = n; cells = cs }) (append_assoc acc (c ∷ []) t.new);
         long = ap suc t.long;
         wires = (h.pins, h.long, h.bytes, rw one at ws);
-        starts = h.starts ∙ ap (λ (ys : List ℕ). line_text (cell_frame c) ++ ys) t.starts;
+        starts = h.starts ∙ ap (λ (ys : List ℕ). line_text (cell_frame c) ++ ys) t.starts ∙ sym (append_assoc (line_text (cell_frame c)) (text (map cell_frame t.new)) rest);
       }
 
 -- the three fields of a heading
@@ -186,14 +185,16 @@ heading-told number xs line h e =
     rw p.1 at g
 
 -- what is taken is a well-formed network, and the text is its page
-pub taken_written : (number K size : ℕ) (w : Network) (xs : List ℕ) → intake number K size xs ≡ taken w → WellFormed K size w × (xs ≡ network_text number w)
-taken_written number K size w xs e =
-    let o = onward-told 1 (heading number xs 1) (λ h. cells_from h.inputs K size h.count [] (past xs) (line_after xs 1)) w e in
+pub taken_written : (number K size : ℕ) (w : Network) (xs rest : List ℕ) (line : ℕ) → intake number K size xs ≡ page w rest line → WellFormed K size w × (xs ≡ network_text number w)
+taken_written number K size w xs rest line e =
+    let a = ended-told (paged number K size xs 1) w rest line e in
+    let o = onward-told 1 (heading number xs 1) (λ h. cells_from h.inputs K size h.count [] (past xs) (line_after xs 1)) w rest line a.0 in
     let h = o.0 in
     let t = heading-told number xs 1 h o.1 in
-    let c = cells_told K size h.inputs h.count [] (past xs) (line_after xs 1) w o.2 in
+    let c = cells_told K size h.inputs h.count [] (past xs) rest (line_after xs 1) line w o.2 in
     let is = c.all in
     let v : Network = record { inputs = h.inputs; cells = c.new } in
+    let more : past xs ≡ text (map cell_frame c.new) = c.starts ∙ ap (λ (ys : List ℕ). text (map cell_frame c.new) ++ ys) a.1 ∙ append-nil (text (map cell_frame c.new)) in
     let r : WellFormed K size v × (xs ≡ network_text number v) = (
       record {
         narrow = t.narrow;
@@ -201,7 +202,7 @@ taken_written number K size w xs e =
         most = omega (arith, t.most, c.long);
         wired = c.wires;
       },
-      t.starts ∙ ap (λ (ys : List ℕ). line_text (sealed (kind_byte kind.Network ∷ number ∷ h.inputs ∷ h.count ∷ [])) ++ ys) c.starts ∙ ap (λ (m : ℕ). line_text (sealed (kind_byte kind.Network ∷ number ∷ h.inputs ∷ m ∷ [])) ++ text (map cell_frame c.new)) (sym c.long),
+      t.starts ∙ ap (λ (ys : List ℕ). line_text (sealed (kind_byte kind.Network ∷ number ∷ h.inputs ∷ h.count ∷ [])) ++ ys) more ∙ ap (λ (m : ℕ). line_text (sealed (kind_byte kind.Network ∷ number ∷ h.inputs ∷ m ∷ [])) ++ text (map cell_frame c.new)) (sym c.long),
     ) in
     rw is r
 

@@ -1,13 +1,11 @@
 -- What a network page is: a heading 11, and then a frame 12 for each cell.
 use Rattle.std.specs.Prelude.{ℕ, zero, suc, ◌+◌, Bool, true, false, cond, ◌&&◌, ◌||◌, List, [], ◌∷◌, ◌++◌, length, take, drop, ◌==◌, nat_le, nat_lt, slice_index}
-use Rattle.frames.specs.declared.faults.FaultNumbers.{FaultNumbers}
-use Rattle.frames.specs.declared.faults.PageFault.{PageFault}
-use Rattle.frames.specs.declared.faults.PageFault.TheVariants.{Record, Missing, Surplus}
 use Rattle.frames.specs.declared.faults.RecordFault.TheVariants.{OutOfRange, BadPin}
 use Rattle.frames.specs.declared.kinds.Kind.TheVariants as kind
 use Rattle.frames.specs.Numbers.{numbers}
 use Rattle.frames.specs.Outcome.{past, line_after}
-use Rattle.frames.specs.Records.{Got, got, gone, bad, due, recorded, anything}
+use Rattle.frames.specs.Pages.{Page, page, onward, ended}
+use Rattle.frames.specs.Records.{Got, got, bad, due, recorded}
 use Rattle.intake.specs.Networks.{NetCell, Network}
 
 -- what a heading gives: the number of inputs and that of cells
@@ -49,34 +47,25 @@ wired n K size k line bs = cond (pinned n k true (take K (drop 1 bs))) (got (cel
 abbrev pub cell : ℕ → ℕ → ℕ → ℕ → List ℕ → ℕ → Got NetCell
 cell n K size k xs line = recorded (due kind.Cell (K + size + 2) xs line) (wired n K size k line)
 
--- what an intake answers: the network, or what is wrong with the page
-pub data Intake : Type 0 where
-  taken : Network → Intake
-  refused : FaultNumbers → PageFault → Intake
-
--- a page whose next record, at this line, is due: how it goes on with the record's value
-abbrev pub onward : {X : Type 0} → ℕ → Got X → (X → Intake) → Intake
-onward line (got x) next = next x
-onward line gone next = refused (numbers 3 8 line 0) (Missing line)
-onward line (bad w e) next = refused w (Record e)
-
--- a network that the text must end with, by what follows it
-abbrev pub closed : Network → ℕ → Got (List ℕ) → Intake
-closed w line gone = taken w
-closed w line (got bs) = refused (numbers 3 8 line 0) (Surplus line)
-closed w line (bad v e) = refused v (Record e)
-
 -- a network of n inputs that has these cells already, and of which so many are left
-abbrev pub cells_from : ℕ → ℕ → ℕ → ℕ → List NetCell → List ℕ → ℕ → Intake
-cells_from n K size zero cs xs line = closed (record { inputs = n; cells = cs }) line (anything xs line)
+abbrev pub cells_from : ℕ → ℕ → ℕ → ℕ → List NetCell → List ℕ → ℕ → Page Network
+cells_from n K size zero cs xs line = page (record { inputs = n; cells = cs }) xs line
 cells_from n K size (suc m) cs xs line =
     onward line (cell n K size (length cs) xs line) (λ c. cells_from n K size m (cs ++ (c ∷ [])) (past xs) (line_after xs line))
 
--- the network page at the start of a text, whose first line has this number, and nothing after it
-abbrev pub paged : ℕ → ℕ → ℕ → List ℕ → ℕ → Intake
+-- the network page at the start of a text, whose first line has this number; what follows it is not looked at
+abbrev pub paged : ℕ → ℕ → ℕ → List ℕ → ℕ → Page Network
 paged number K size xs line =
     onward line (heading number xs line) (λ h. cells_from h.inputs K size h.count [] (past xs) (line_after xs line))
 
+-- the page that a whole text is
+abbrev pub alone : ℕ → ℕ → ℕ → List ℕ → ℕ → Page Network
+alone number K size xs line = ended (paged number K size xs line)
+
 -- what the intake of the family with this number, of K pins and so many configuration bytes, answers to a text
-abbrev pub intake : ℕ → ℕ → ℕ → List ℕ → Intake
-intake number K size xs = paged number K size xs 1
+abbrev pub intake : ℕ → ℕ → ℕ → List ℕ → Page Network
+intake number K size xs = alone number K size xs 1
+
+-- a network is taken: its page is the whole text, a line for the heading and one for each cell
+abbrev pub taken : Network → Page Network
+taken w = page w [] (length w.cells + 2)

@@ -1,12 +1,12 @@
 -- What the values of the code stand for.
-use Rattle.std.specs.Prelude.{◌≡◌, ℕ, List, map, length, take, Ok, Err, Result}
+use Rattle.std.specs.Prelude.{◌≡◌, ℕ, List, [], map, length, take, Result}
 use Rattle.frames.specs.declared.faults.PageFault.{PageFault}
-use Rattle.frames.specs.Numbers.{page_numbers}
+use Rattle.frames.specs.Pages.{Page, Fills}
 use Rattle.intake.specs.declared.cell.Cell.{Cell}
 use Rattle.intake.specs.declared.cells.Cells.{Cells}
 use Rattle.intake.specs.declared.records.Heading.{Heading}
 use Rattle.intake.specs.Networks.{NetCell, Network}
-use Rattle.intake.specs.Page.{Headed, Intake, taken, refused}
+use Rattle.intake.specs.Page.{Headed}
 
 -- a cell has these pins and this configuration at its front
 abbrev pub Holds : List ℕ → List ℕ → Cell → Type 0
@@ -28,12 +28,6 @@ network_of K size cs = record { inputs = cs.inputs; cells = map (cell_of K size)
 abbrev pub heading_of : Heading → Headed
 heading_of h = record { inputs = h.inputs; count = h.count }
 
--- what an answer of cells or a fault tells
-abbrev pub told : ℕ → ℕ → Result Cells PageFault → Intake
-told K size (Ok cs) = taken (network_of K size cs)
-told K size (Err e) = refused (page_numbers e) e
-
 -- a call that takes a network in: the network that the page means, or the fault whole, and the cells are as they were
-abbrev pub Loaded : ℕ → ℕ → Intake → Cells → Cells → Result (Unit {0}) PageFault → Type 0
-Loaded K size i before after (Ok u) = i ≡ taken (network_of K size after)
-Loaded K size i before after (Err e) = (i ≡ refused (page_numbers e) e) × (after ≡ before)
+abbrev pub Loaded : ℕ → ℕ → Page Network → Cells → Cells → Result (Unit {0}) PageFault → Type 0
+Loaded K size p before after r = (line : ℕ) × Fills (λ w cs _. w ≡ network_of K size cs) p [] line before after r

@@ -1,34 +1,27 @@
 //! Reading the cells of a network page.
 
-ghost use Rattle.std.specs.Prelude.{◌≡◌, ◌≤◌, []};
+ghost use Rattle.std.specs.Prelude.{◌≡◌, ℕ, ◌≤◌, []};
+ghost use Rattle.frames.specs.Pages.{ReadsPage};
 ghost use Rattle.frames.specs.Reading.{left};
-ghost use Rattle.intake.specs.Page.{cells_from, paged};
-ghost use Rattle.intake.specs.Views.{told};
+ghost use Rattle.intake.specs.Page.{cells_from, alone};
+ghost use Rattle.intake.specs.Views.{network_of};
 
 use crate::cells::Cells;
 use crate::records::{Shape, read_cell, read_heading};
 use frames::faults::PageFault;
 use frames::reader::FrameReader;
-use frames::records::read_any;
+use frames::records::read_end;
 
-/// Reads so many cells, with which the text must end.
+/// Reads so many cells.
 fn read_cells(reader: &mut FrameReader, shape: Shape, count: usize) -> Result<Cells, PageFault>
-    requires pins { shape.pins ≤ 5 }
-    requires bytes { shape.bytes ≤ 16 }
-    requires few { count ≤ 48 }
-    ensures { told shape.pins shape.bytes result ≡ cells_from shape.inputs shape.pins shape.bytes count [] (left reader.old) reader.old.line }
+    requires { count ≤ 48 }
+    ensures { ReadsPage (λ w cs. w ≡ network_of shape.pins shape.bytes cs) (cells_from shape.inputs shape.pins shape.bytes count [] (left reader.old) reader.old.line) (left reader.new) reader.new.line result }
 {
     let mut cells = Cells::new(shape.inputs);
     for before in 0..count {
         let line = reader.line();
-        let Some(cell) = read_cell(reader, shape, before)? else {
-            return Err(PageFault::Missing { line });
-        };
+        let cell = read_cell(reader, shape, before)?.ok_or(PageFault::Missing { line })?;
         cells.push(cell);
-    }
-    let line = reader.line();
-    if read_any(reader)?.is_some() {
-        return Err(PageFault::Surplus { line });
     }
     Ok(cells)
 }
@@ -42,17 +35,16 @@ pub(crate) fn read_page(
 ) -> Result<Cells, PageFault>
     requires pins { pins ≤ 5 }
     requires bytes { bytes ≤ 16 }
-    ensures { told pins bytes result ≡ paged number pins bytes (left reader.old) reader.old.line }
+    ensures { (line : ℕ) × ReadsPage (λ w cs. w ≡ network_of pins bytes cs) (alone number pins bytes (left reader.old) reader.old.line) [] line result }
 {
     let line = reader.line();
-    let Some(heading) = read_heading(reader, number)? else {
-        return Err(PageFault::Missing { line });
-    };
-    let inputs = heading.inputs;
+    let heading = read_heading(reader, number)?.ok_or(PageFault::Missing { line })?;
     let shape = Shape {
-        inputs,
+        inputs: heading.inputs,
         pins,
         bytes,
     };
-    read_cells(reader, shape, heading.count)
+    let cells = read_cells(reader, shape, heading.count)?;
+    read_end(reader)?;
+    Ok(cells)
 }

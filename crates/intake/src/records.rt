@@ -1,17 +1,16 @@
 //! The records of a network page: its heading, and the frames of its cells.
 
-ghost use Rattle.std.specs.Prelude.{◌≡◌, ◌+◌, ◌≤◌, true, length, IfSome, IfOk};
-ghost use Rattle.frames.specs.Outcome.{body, outcome};
+ghost use Rattle.std.specs.Prelude.{◌≡◌, ◌≤◌, true, IfSome, IfOk};
 ghost use Rattle.frames.specs.Reading.{left, Moved};
-ghost use Rattle.frames.specs.Records.{answered, due};
+ghost use Rattle.frames.specs.Records.{answered};
 ghost use Rattle.intake.specs.Page.{heading, signal, pinned, cell as cell_at};
 ghost use Rattle.intake.specs.Views.{cell_of, heading_of};
 
 use crate::cell::{Cell, UNUSED};
-use frames::faults::{FrameFault, RecordFault};
-use frames::frame::{Form, Frame};
+use frames::faults::RecordFault;
 use frames::kinds::Kind;
 use frames::reader::FrameReader;
+use frames::records::read_due;
 
 /// What a heading gives: how many inputs the network has, and how many cells.
 #[derive(Clone, Copy)]
@@ -26,16 +25,8 @@ pub struct Shape {
     pub inputs: usize,
     pub pins: usize,
     pub bytes: usize,
-}
-
-/// The next frame, where only one of this kind and byte count is due; none at the end of the text.
-fn read_due(reader: &mut FrameReader, kind: Kind, len: usize) -> Result<Option<Frame>, FrameFault>
-    ensures answer { outcome result ≡ due kind len (left reader.old) reader.old.line }
-    ensures long { IfOk result (λ o. IfSome o (λ f. length (body f) ≡ len)) }
-    ensures moved { Moved reader.old reader.new }
-{
-    let kind = u8::from(kind);
-    reader.due(&[Form { kind, len }])
+    ghost few_pins: { pins ≤ 5 },
+    ghost few_bytes: { bytes ≤ 16 },
 }
 
 /// The heading of a network page of the family with this number; none at the end of the text.
@@ -49,9 +40,9 @@ pub fn read_heading(reader: &mut FrameReader, number: u8) -> Result<Option<Headi
         return Ok(None);
     };
     let fields = frame.bytes();
-    let inputs = fields[2] as usize;
-    let count = fields[3] as usize;
-    if fields[1] != number || inputs > 16 || count < 1 || count > 48 {
+    let inputs = usize::from(fields[2]);
+    let count = usize::from(fields[3]);
+    if fields[1] != number || inputs > 16 || !(1..=48).contains(&count) {
         return Err(RecordFault::OutOfRange { line });
     }
     Ok(Some(Heading { inputs, count }))
@@ -59,16 +50,14 @@ pub fn read_heading(reader: &mut FrameReader, number: u8) -> Result<Option<Headi
 
 /// Whether a pin is an input below `inputs`, or one of the cells before.
 fn is_signal(pin: u8, inputs: usize, before: usize) -> bool
-    requires { before ≤ 48 }
     ensures { result ≡ signal inputs before pin }
 {
-    let signal = pin as usize;
-    signal < inputs || signal >= 16 && signal < 16 + before
+    let signal = usize::from(pin);
+    signal < inputs || signal >= 16 && signal - 16 < before
 }
 
 /// Whether pins are signals, and after them pins that are not used.
 fn are_pins(pins: &[u8], inputs: usize, before: usize) -> bool
-    requires { before ≤ 48 }
     ensures { result ≡ pinned inputs before true pins.now }
 {
     let mut used = true;
@@ -88,9 +77,6 @@ pub(crate) fn read_cell(
     shape: Shape,
     before: usize,
 ) -> Result<Option<Cell>, RecordFault>
-    requires pins { shape.pins ≤ 5 }
-    requires bytes { shape.bytes ≤ 16 }
-    requires before { before ≤ 48 }
     ensures answer { answered (cell_of shape.pins shape.bytes) result ≡ cell_at shape.inputs shape.pins shape.bytes before (left reader.old) reader.old.line }
     ensures moved { Moved reader.old reader.new }
 {

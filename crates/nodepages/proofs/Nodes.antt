@@ -2,14 +2,10 @@
 use Rattle.std.proofs.Common.{◌≡◌, ℕ, suc, ◌+◌, ◌-◌, ◌<◌, ◌≤◌, true, cond, ◌&&◌, eqb, ltb, leb, List, [], ◌∷◌, ◌++◌, length, Some, sym, refl, ap, ◌∙◌, inl, inr, arith}
 use Rattle.std.proofs.lemmas.List.{length_push}
 use Rattle.std.proofs.lemmas.Bool.{and_parts, cases_Bool, cond-true, cond-false, eq-eqb, ne_eqb, eqb-true, leb-true, ltb-true, cases_eq}
-use Rattle.frames.specs.declared.faults.FaultNumbers.{FaultNumbers}
-use Rattle.frames.specs.declared.faults.PageFault.TheVariants.{Record, Missing}
-use Rattle.frames.specs.declared.faults.RecordFault.{RecordFault}
 use Rattle.frames.specs.declared.kinds.Kind.TheVariants as kind
-use Rattle.frames.specs.Numbers.{numbers}
 use Rattle.frames.specs.Outcome.{past, line_after}
 use Rattle.frames.specs.Records.{Got, got, gone, bad}
-use Rattle.frames.specs.Pages.{Page, page, refused, onward}
+use Rattle.frames.specs.Pages.{Page, page, onward}
 use Rattle.nodes.specs.declared.node.Node.{Node}
 use Rattle.nodes.specs.Drafts.{Verdict, fits, misplaced, repeated, verdict, names, unnamed, top}
 use Rattle.nodepages.specs.declared.records.Heading.{Heading}
@@ -27,27 +23,23 @@ joined-told line ys zs y fits e = (refl, cc)
 joined-told line ys zs y misplaced e = let z : ◌≡◌ {A = ℕ} 0 1 = cc in absurd (omega arith)
 joined-told line ys zs y repeated e = let z : ◌≡◌ {A = ℕ} 0 1 = cc in absurd (omega arith)
 
-next-length : (n : ℕ) (ys zs : List Node) (xs : List ℕ) (line : ℕ) → next_node n ys xs line ≡ got zs → length zs ≡ length ys + 1
+pub next-length : (n : ℕ) (ys zs : List Node) (xs : List ℕ) (line : ℕ) → next_node n ys xs line ≡ got zs → length zs ≡ length ys + 1
 next-length n ys zs xs line e =
     let t = taken-told (fields kind.Node xs line) (λ t. joined line ys (node_of t) (verdict n ys (node_of t))) zs e in
     let y = node_of t.0 in
     ap length (joined-told line ys zs y (verdict n ys y) t.2).1 ∙ length_push ys y
 
 -- after i of the nodes that are due
-module _ (n count i : ℕ) (ys : List Node) (xs : List ℕ) (line : ℕ) (all : Page (List Node)) (less : i < count) (is : listed n (count - i) ys xs line ≡ all) where
-  goes_on : onward line (next_node n ys xs line) (λ zs. listed n (count - (i + 1)) zs (past xs) (line_after xs line)) ≡ all
-  goes_on = let e : count - i ≡ suc (count - (i + 1)) = omega arith in ap (λ (k : ℕ). listed n k ys xs line) (sym e) ∙ is
+module _ (n count i : ℕ) (xs : List ℕ) (line : ℕ) where
+  -- the page goes on with those that are left
+  abbrev pub then_nodes : List Node → Page (List Node)
+  then_nodes zs = listed n (count - (i + 1)) zs (past xs) (line_after xs line)
 
-  pub node-more : (zs : List Node) (rest : List ℕ) (next : ℕ) → got zs ≡ next_node n ys xs line → rest ≡ past xs → next ≡ line_after xs line → (listed n (count - (i + 1)) zs rest next ≡ all) × (length zs ≡ length ys + 1)
-  node-more zs rest next e p q =
-      let f = λ (g : Got (List Node)). onward line g (λ zs. listed n (count - (i + 1)) zs (past xs) (line_after xs line)) in
-      (ap (λ (t : List ℕ). listed n (count - (i + 1)) zs t next) p ∙ ap (listed n (count - (i + 1)) zs (past xs)) q ∙ ap f e ∙ goes_on, next-length n ys zs xs line (sym e))
+  pub nodes-on : (ys : List Node) (all : Page (List Node)) → i < count → listed n (count - i) ys xs line ≡ all → onward line (next_node n ys xs line) then_nodes ≡ all
+  nodes-on ys all less is = let e : count - i ≡ suc (count - (i + 1)) = omega arith in ap (λ (k : ℕ). listed n k ys xs line) (sym e) ∙ is
 
-  pub node-gone : gone ≡ next_node n ys xs line → all ≡ refused (numbers 3 8 line 0) (Missing line)
-  node-gone e = let f = λ (g : Got (List Node)). onward line g (λ zs. listed n (count - (i + 1)) zs (past xs) (line_after xs line)) in sym (ap f e ∙ goes_on)
-
-  pub node-bad : (w : FaultNumbers) (v : RecordFault) → bad w v ≡ next_node n ys xs line → all ≡ refused w (Record v)
-  node-bad w v e = let f = λ (g : Got (List Node)). onward line g (λ zs. listed n (count - (i + 1)) zs (past xs) (line_after xs line)) in sym (ap f e ∙ goes_on)
+  pub nodes-past : (zs : List Node) (all : Page (List Node)) (rest : List ℕ) (next : ℕ) → then_nodes zs ≡ all → rest ≡ past xs → next ≡ line_after xs line → listed n (count - (i + 1)) zs rest next ≡ all
+  nodes-past zs all rest next e p q = ap (λ (t : List ℕ). listed n (count - (i + 1)) zs t next) p ∙ ap (listed n (count - (i + 1)) zs (past xs)) q ∙ e
 
 -- and after all of them
 pub nodes_all : (n count i : ℕ) (ys : List Node) (xs : List ℕ) (line : ℕ) → count ≤ i → listed n (count - i) ys xs line ≡ page ys xs line

@@ -1,7 +1,6 @@
 -- What a node page is: a heading 01 with its number of arguments, its count of nodes and its root, and a frame 02 for each node.
 use Rattle.std.specs.Prelude.{ℕ, zero, suc, ◌+◌, ◌-◌, ◌*◌, Bool, cond, ◌&&◌, List, [], ◌∷◌, ◌++◌, length, Some, None, Option, ◌==◌, nat_le, nat_lt, slice_index}
 use Rattle.frames.specs.declared.faults.PageFault.TheVariants.{Unnamed}
-use Rattle.frames.specs.declared.faults.RecordFault.{RecordFault}
 use Rattle.frames.specs.declared.faults.RecordFault.TheVariants.{OutOfRange, BadPlace, Repeated}
 use Rattle.frames.specs.declared.kinds.Kind.{Kind}
 use Rattle.frames.specs.declared.kinds.Kind.TheVariants as kind
@@ -12,8 +11,6 @@ use Rattle.frames.specs.Pages.{Page, page, refused, onward, ended}
 use Rattle.functions.specs.Functions.{Fn}
 use Rattle.nodes.specs.declared.node.Node.{Node}
 use Rattle.nodes.specs.declared.node_chart.NodeChart.{NodeChart}
-use Rattle.nodes.specs.declared.drafting.NodeFlaw.{NodeFlaw}
-use Rattle.nodes.specs.declared.drafting.NodeFlaw.TheVariants as flaw
 use Rattle.nodes.specs.Diagrams.{node, mean}
 use Rattle.nodes.specs.Drafts.{Verdict, fits, misplaced, repeated, verdict, unnamed, Charts}
 use Rattle.nodepages.specs.declared.records.Triple.{Triple}
@@ -62,12 +59,6 @@ abbrev pub joined : ℕ → List Node → Node → Verdict → Got (List Node)
 joined line ys y fits = got (ys ++ (y ∷ []))
 joined line ys y misplaced = bad (numbers 2 5 line (length ys + 2)) (BadPlace line (length ys + 2))
 joined line ys y repeated = bad (numbers 2 6 line (length ys + 2)) (Repeated line (length ys + 2))
-
--- the fault of a frame whose node was not added; there is room for each node that is due
-abbrev pub flaw_fault : NodeFlaw → ℕ → ℕ → RecordFault
-flaw_fault flaw.Misplaced line k = BadPlace line k
-flaw_fault flaw.Repeated line k = Repeated line k
-flaw_fault flaw.NoRoom line k = OutOfRange line
 
 -- the node with these fields
 abbrev pub node_of : Triple → Node

@@ -4,12 +4,12 @@ ghost use Rattle.std.specs.Prelude.{◌≡◌, ◌+◌, ◌*◌, ◌<◌, true, 
 ghost use Rattle.frames.specs.Reading.{left, Moved};
 ghost use Rattle.frames.specs.Records.{answered};
 ghost use Rattle.nodes.specs.Drafts.{drafted};
-ghost use Rattle.nodepages.specs.Page.{triple, fields, in_range, heading, next_node, flaw_fault};
+ghost use Rattle.nodepages.specs.Page.{triple, fields, in_range, heading, next_node};
 
 use frames::faults::RecordFault;
-use frames::frame::Form;
 use frames::kinds::Kind;
 use frames::reader::FrameReader;
+use frames::records::read_due;
 use nodes::{Draft, NodeFlaw};
 
 /// The fields of a frame of a node page: a byte, and two numbers of two bytes.
@@ -28,13 +28,6 @@ pub struct Heading {
     pub root: usize,
 }
 
-/// The number of two bytes.
-fn word(high: u8, low: u8) -> u16
-    ensures { result ≡ high * 256 + low }
-{
-    high as u16 * 256 + low as u16
-}
-
 /// The fields of a frame of seven bytes.
 fn triple_of(bytes: &[u8]) -> Triple
     requires { length bytes.now ≡ 7 }
@@ -42,8 +35,8 @@ fn triple_of(bytes: &[u8]) -> Triple
 {
     Triple {
         byte: bytes[1],
-        first: word(bytes[2], bytes[3]),
-        second: word(bytes[4], bytes[5]),
+        first: u16::from_be_bytes([bytes[2], bytes[3]]),
+        second: u16::from_be_bytes([bytes[4], bytes[5]]),
     }
 }
 
@@ -52,11 +45,8 @@ fn read_fields(reader: &mut FrameReader, kind: Kind) -> Result<Option<Triple>, R
     ensures answer { answered (λ t. t) result ≡ fields kind (left reader.old) reader.old.line }
     ensures moved { Moved reader.old reader.new }
 {
-    let kind = u8::from(kind);
-    let Some(frame) = reader.due(&[Form { kind, len: 7 }])? else {
-        return Ok(None);
-    };
-    Ok(Some(triple_of(frame.bytes())))
+    let frame = read_due(reader, kind, 7)?;
+    Ok(frame.map(|frame| triple_of(frame.bytes())))
 }
 
 impl Heading {
@@ -65,7 +55,7 @@ impl Heading {
     fn in_range(&self) -> bool
         ensures { result ≡ in_range self.now }
     {
-        if self.arity < 1 || self.arity > 16 || self.count > 1024 {
+        if !(1..=16).contains(&self.arity) || self.count > 1024 {
             return false;
         }
         if self.count == 0 {
@@ -87,25 +77,14 @@ pub fn read_heading(reader: &mut FrameReader) -> Result<Option<Heading>, RecordF
         return Ok(None);
     };
     let heading = Heading {
-        arity: fields.byte as usize,
-        count: fields.first as usize,
-        root: fields.second as usize,
+        arity: usize::from(fields.byte),
+        count: usize::from(fields.first),
+        root: usize::from(fields.second),
     };
     if !heading.in_range() {
         return Err(RecordFault::OutOfRange { line });
     }
     Ok(Some(heading))
-}
-
-/// What is wrong with the frame of a node that was not added.
-fn fault_of(flaw: NodeFlaw, line: usize, node: usize) -> RecordFault
-    ensures { result ≡ flaw_fault flaw line node }
-{
-    match flaw {
-        NodeFlaw::Misplaced => RecordFault::BadPlace { line, node },
-        NodeFlaw::Repeated => RecordFault::Repeated { line, node },
-        NodeFlaw::NoRoom => RecordFault::OutOfRange { line },
-    }
 }
 
 /// Adds the node of the next frame to a draft that has room; none at the end of the text.
@@ -125,6 +104,8 @@ pub(crate) fn read_node(
     let node = draft.count() + 2;
     match draft.add(fields.byte, fields.first, fields.second) {
         Ok(()) => Ok(Some(())),
-        Err(flaw) => Err(fault_of(flaw, line, node)),
+        Err(NodeFlaw::Misplaced) => Err(RecordFault::BadPlace { line, node }),
+        Err(NodeFlaw::Repeated) => Err(RecordFault::Repeated { line, node }),
+        Err(NodeFlaw::NoRoom) => Err(RecordFault::OutOfRange { line }),
     }
 }

@@ -1,12 +1,8 @@
-use Rattle.std.proofs.Common.{take, arith}
 use Rattle.frames.specs.Reading.{left}
-use Rattle.bitpages.specs.Table.{size}
-use Rattle.bitpages.proofs.Tables.{holds}
+use Rattle.bitpages.proofs.Tables.{filled}
 use Rattle.bitpages.proofs.loading.read_table.Goals as goal
 
 pub returns : goal.returns
 returns c =
-    let n = c.in_ok-n.n in
-    let bytes = c.read_page.new.bytes in
-    let t = c.in_ok-n.ensures in
-    (take (size n) bytes, t.0, holds n (left c.args.reader.now) bytes (left c.read_page.new.reader) c.args.reader.now.line c.read_page.new.reader.line c.size_of.result c.unpack.new.table t.0 (omega (arith, c.size_of.ensures.value)) c.unpack.array_long c.unpack.ensures)
+    let r = c.in_ok-arity.ensures in
+    (r.0, r.1, filled r.0 c.in_ok-arity.arity.n (left c.args.reader.now) c.read_page.new.bytes (left c.read_page.new.reader) c.args.reader.now.line c.read_page.new.reader.line c.bytes.result c.unpack.new.table r.1 r.2 c.bytes.ensures.value c.unpack.array_long c.unpack.ensures)
