@@ -39,6 +39,11 @@ abbrev pub write_answer : Result ℕ Refusal → Answer
 write_answer (Ok n) = Wrote n
 write_answer (Err e) = Refused e
 
+-- the answer of a call
+abbrev pub answer_of : Result Answer Refusal → Answer
+answer_of (Ok a) = a
+answer_of (Err e) = Refused e
+
 -- the inverting charts over the charts C
 abbrev pub inverted : {C P : Type 0} → chart.Ghosts C P → chart.Ghosts (Inverting C P) P
 inverted ch = record {

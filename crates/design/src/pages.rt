@@ -115,9 +115,6 @@ impl<C: Chart, R: CodeRule, F: CellFamily> Design<C, R, F> {
         for i in 0..count {
             frames[i + 1] = frame_of(&self.family, &self.netlist.cells[i]);
         }
-        match write_frames(&frames[0..count + 1], out) {
-            Ok(bytes) => Ok(bytes),
-            Err(_) => Err(Refusal::TooShort),
-        }
+        Ok(write_frames(&frames[0..count + 1], out)?)
     }
 }

@@ -1,5 +1,6 @@
 use Rattle.std.proofs.Common.{◌≡◌, ◌+◌, ◌-◌, [], ◌∷◌, map, take, ◌∙◌, arith}
 use Rattle.std.proofs.lemmas.List.{length-set}
+use Rattle.std.proofs.lemmas.Result.{err_from_is_err_and}
 use Rattle.frames.specs.Outcome.{body}
 use Rattle.frames.specs.Text.{text}
 use Rattle.intake.specs.Written.{heading_frame, cell_frame}
@@ -27,20 +28,21 @@ loop-i-preserved g c =
           (omega arith) (omega arith) inv.1 c.frame_of.ensures,
     )
 
-pub returns-in-Ok : goal.returns-in-Ok
-returns-in-Ok g c =
+pub returns : goal.returns
+returns g c =
     let d = c.args.self.now in
-    let wrote = c.in-Ok.ensures.wrote in
+    let wrote = c.in_ok-write_frames.ensures.wrote in
     let n = d.netlist.count + 1 - 0 in
     let e : c.loop-i.i ≡ c.args.self.now.netlist.count = omega arith in
     write_done g.C.Chart g.R.CodeRule g.F.CellFamily d c.args.out.now c.if-not-self.false (text (map body (take n c.loop-i.frames))) c.write_frames.new.out
-    (page_written g.C.Chart g.R.CodeRule g.F.CellFamily d c.args.out.now c.loop-i.frames c.loop-i.i n e (omega arith) c.loop-i.invariant.1) c.in-Ok.bytes wrote.0 wrote.1 wrote.2
+    (page_written g.C.Chart g.R.CodeRule g.F.CellFamily d c.args.out.now c.loop-i.frames c.loop-i.i n e (omega arith) c.loop-i.invariant.1) c.in_ok-write_frames.field-0 wrote.0 wrote.1 wrote.2
 
-pub returns-in-Err : goal.returns-in-Err
-returns-in-Err g c =
+pub returns-in_err-write_frames : goal.returns-in_err-write_frames
+returns-in_err-write_frames g c =
     let d = c.args.self.now in
-    let wrote = c.in-Err.ensures.wrote in
+    let wrote = c.in_err-write_frames.ensures.wrote in
     let n = d.netlist.count + 1 - 0 in
     let e : c.loop-i.i ≡ c.args.self.now.netlist.count = omega arith in
-    write_short g.C.Chart g.R.CodeRule g.F.CellFamily d c.args.out.now c.if-not-self.false (text (map body (take n c.loop-i.frames))) c.write_frames.new.out
-    (page_written g.C.Chart g.R.CodeRule g.F.CellFamily d c.args.out.now c.loop-i.frames c.loop-i.i n e (omega arith) c.loop-i.invariant.1) wrote.0 wrote.2
+    let p = err_from_is_err_and c.from_residual.result c.from_residual.ensures.1 in
+    rw (p.1, p.2) (write_short g.C.Chart g.R.CodeRule g.F.CellFamily d c.args.out.now c.if-not-self.false (text (map body (take n c.loop-i.frames))) c.write_frames.new.out
+    (page_written g.C.Chart g.R.CodeRule g.F.CellFamily d c.args.out.now c.loop-i.frames c.loop-i.i n e (omega arith) c.loop-i.invariant.1) wrote.0 wrote.2)

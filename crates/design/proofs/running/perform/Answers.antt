@@ -2,7 +2,7 @@ use Rattle.std.proofs.Common.{length}
 use Rattle.design.specs.Runs.{tolds, setting}
 use Rattle.design.proofs.Reached.{goes-stays, goes_reaches}
 use Rattle.design.proofs.Promised.{judged, promised}
-use Rattle.design.proofs.running.performed.Goals as goal
+use Rattle.design.proofs.running.perform.Goals as goal
 
 pub returns : goal.returns
 returns g c =
