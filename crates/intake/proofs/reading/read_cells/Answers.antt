@@ -1,5 +1,5 @@
-use Rattle.std.proofs.Common.{◌≡◌, [], ◌∷◌, ◌++◌, map, sym, ap, ◌∙◌, arith}
-use Rattle.std.proofs.lemmas.List.{map_push}
+use Rattle.std.proofs.Common.{◌≡◌, ◌+◌, [], ◌∷◌, ◌++◌, map, length, sym, ap, ◌∙◌, arith}
+use Rattle.std.proofs.lemmas.List.{length_push, map_push}
 use Rattle.std.proofs.lemmas.Result.{err_from_is_err_and}
 use Rattle.frames.specs.Numbers.{record_numbers}
 use Rattle.frames.specs.Reading.{left}
@@ -31,4 +31,4 @@ loop-before-preserved c =
     let a : got (cell_of s.pins s.bytes c.in-Some.cell) ≡ cell s.inputs s.pins s.bytes c.loop-before.before (left c.loop-before.reader) c.loop-before.reader.line = rw c.in-Some.is at ea in
     let l = left-got c.loop-before.invariant.2 (omega arith) (view c.in-Some.cell) (left c.read_cell.new.reader) c.read_cell.new.reader.line a e.moved.rest e.moved.line in
     let more : map (cell_of s.pins s.bytes) (listed c.push.new.self) ≡ map (cell_of s.pins s.bytes) (listed c.loop-before.cells) ++ (cell_of s.pins s.bytes c.in-Some.cell ∷ []) = ap (map view) c.push.ensures.cells ∙ map_push view (listed c.loop-before.cells) c.in-Some.cell in
-    (omega (arith, c.push.ensures.count, c.loop-before.invariant.0), c.push.ensures.inputs ∙ c.loop-before.invariant.1, rw more l)
+    (ap length c.push.ensures.cells ∙ length_push (listed c.loop-before.cells) c.in-Some.cell ∙ ap (λ n. n + 1) c.loop-before.invariant.0, c.push.ensures.inputs ∙ c.loop-before.invariant.1, rw more l)
