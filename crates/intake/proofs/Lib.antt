@@ -3,3 +3,4 @@ pub mod Fields
 pub mod Pages
 pub mod Remaining
 pub mod Yields
+pub mod Closing

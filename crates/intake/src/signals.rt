@@ -53,6 +53,7 @@ impl Signals {
     }
 
     /// The bit of the last cell: false where there is none.
+    #[tactic(auto, using(crate::proofs::Closing::closing_bit))]
     pub fn closing(&self) -> bool
         ensures { result ≡ last (drop 16 self.now) }
     {

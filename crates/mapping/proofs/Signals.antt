@@ -6,10 +6,9 @@ use Rattle.std.proofs.lemmas.List.FromFn.{length-map-range_with_len, get_or-map-
 use Rattle.std.proofs.ByRecursion.{All-weaker}
 use Rattle.functions.specs.Words.{number}
 use Rattle.families.specs.Tables.{entry_of}
-use Rattle.intake.specs.Networks.{yielded, last}
+use Rattle.intake.specs.Networks.{yielded}
+use Rattle.intake.proofs.Yields.{yielded-append, length-yielded}
 use Rattle.mapping.specs.States.{Cell, cell, values, yield, signals}
-
--- ---- cells one after another
 
 pub signals-append : (vs : List Bool) (cs ds : List Cell) → signals vs (cs ++ ds) ≡ signals vs cs ++ yielded yield (signals vs cs) ds
 signals-append vs cs ds = ap (λ ws. vs ++ ws) (yielded-append yield vs cs ds) ∙ sym (append_assoc vs (yielded yield vs cs) (yielded yield (signals vs cs) ds))
