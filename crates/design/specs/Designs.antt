@@ -23,6 +23,7 @@ use Rattle.mapping.specs.Answers.{Answers, Ranged, page_bytes}
 use Rattle.mapping.specs.Kept.{network_of}
 use Rattle.design.specs.Cells.{cells_of}
 use Rattle.design.specs.declared.design.Design.{Design}
+use Rattle.design.specs.declared.splitting.SplitCounts.{SplitCounts}
 
 -- the answer of a swap or a close
 abbrev pub done_answer : {U : Type 0} → Result U Refusal → Answer
@@ -30,8 +31,8 @@ done_answer (Ok u) = Done
 done_answer (Err e) = Refused e
 
 -- the answer of a split: how many classes there are, and how many cells
-abbrev pub split_answer : Result (ℕ × ℕ) Refusal → Answer
-split_answer (Ok p) = Divided p.0 p.1
+abbrev pub split_answer : Result SplitCounts Refusal → Answer
+split_answer (Ok s) = Divided s.classes s.cells
 split_answer (Err e) = Refused e
 
 -- the answer of a write: how many bytes there are

@@ -9,6 +9,7 @@ ghost use Rattle.design.specs.Designs.{answer_of, seen};
 ghost use Rattle.design.specs.Runs.{tolds, setting, Does, Goes, Ran, Promise};
 
 use super::design::Design;
+use super::splitting::SplitCounts;
 use charts::Chart;
 use families::family::CellFamily;
 use mapping::answer::Answer;
@@ -33,7 +34,7 @@ impl<C: Chart, R: CodeRule, F: CellFamily> Design<C, R, F> {
             }
             Call::Split { bound, codes, room } => {
                 let lent = room.min(strip.len());
-                let (classes, cells) = self.split(bound, codes, &mut strip[..lent])?;
+                let SplitCounts { classes, cells } = self.split(bound, codes, &mut strip[..lent])?;
                 Ok(Answer::Divided { classes, cells })
             }
             Call::Close => {
@@ -70,9 +71,9 @@ fn run<C: Chart, R: CodeRule, F: CellFamily>(
     ensures goes { Goes C.Chart R.CodeRule F.CellFamily (setting C.Chart R.CodeRule F.CellFamily design.old strip.old out.old) (tolds (length strip.old) (length out.old) calls.now answers.new) (setting C.Chart R.CodeRule F.CellFamily design.new strip.new out.new) }
     ensures rest { drop (length calls.now) answers.new ≡ drop (length calls.now) answers.old }
 {
-    let count = calls.len().min(answers.len());
-    for i in 0..count {
-        answers[i] = design.call(calls[i], strip, out);
+    for (i, answer) in answers.iter_mut().enumerate() {
+        let Some(call) = calls.get(i) else { break };
+        *answer = design.call(*call, strip, out);
     }
 }
 
