@@ -1,5 +1,4 @@
-use Rattle.std.proofs.Common.{lit<, ap, ◌∙◌, arith}
-use Rattle.std.specs.List.{range_with_len}
+use Rattle.std.proofs.Common.{lit<, ◌∙◌, arith}
 use Rattle.functions.specs.Classes.{class_of}
 use Rattle.functions.specs.Words.{bits}
 use Rattle.charts.specs.Walks.{chart_function}

@@ -1,11 +1,10 @@
-use Rattle.std.proofs.Common.{◌≡◌, [], ◌∷◌, ◌++◌, map, lit<, take, ap, ◌∙◌, arith}
+use Rattle.std.proofs.Common.{[], ◌∷◌, ◌++◌, map, lit<, ap, ◌∙◌, arith}
 use Rattle.std.proofs.lemmas.List.{take_all}
 use Rattle.std.proofs.lemmas.Result.{err_from_is_err_and}
 use Rattle.frames.specs.Outcome.{body}
 use Rattle.frames.specs.Text.{text}
 use Rattle.intake.specs.Written.{heading_frame, cell_frame}
 use Rattle.mapping.specs.Kept.{configured}
-use Rattle.design.specs.declared.cell.Cell.{Cell}
 use Rattle.design.specs.Cells.{seen_cell}
 use Rattle.design.specs.Designs.{network_seen}
 use Rattle.design.proofs.Written.{frames_count, frames_more, page_written, write_open, write_short, write_done}
