@@ -1,12 +1,13 @@
 -- What the calls that read and write bit pages do.
 use Rattle.std.specs.Prelude.{◌≡◌, ℕ, ◌^◌, ◌≤◌, Bool, false, List, take, Ok, Err, Result, slice_index_or}
-use Rattle.charts.specs.declared.bits.BitChart.{BitChart}
+use Rattle.charts.specs.declared.BitChart.{BitChart}
 use Rattle.charts.specs.BitCharts.{bit_function}
 use Rattle.frames.specs.declared.faults.PageFault.{PageFault}
 use Rattle.frames.specs.declared.reader.FrameReader.{FrameReader}
 use Rattle.frames.specs.Numbers.{page_numbers}
 use Rattle.frames.specs.Reading.{left}
-use Rattle.frames.specs.Writing.{Wrote, refusal_number}
+use Rattle.frames.specs.Writing.{Wrote}
+use Rattle.buffers.specs.Refusals.{refusal_number}
 use Rattle.functions.specs.Functions.{tree}
 use Rattle.bitpages.specs.declared.writing.TableRefusal.{TableRefusal}
 use Rattle.bitpages.specs.declared.writing.TableRefusal.TheVariants.{NoTable, Unwritten}

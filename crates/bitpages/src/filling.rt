@@ -8,10 +8,10 @@ ghost use Rattle.bitpages.specs.Calls.{Charted};
 ghost use Rattle.bitpages.specs.Page.{paged, alone};
 
 use crate::loading::{load_table, read_table};
+use bits::power;
 use charts::BitChart;
 use frames::faults::PageFault;
 use frames::reader::FrameReader;
-use functions::power;
 
 /// How many entries a table of n arguments has.
 fn entry_count(n: usize) -> usize

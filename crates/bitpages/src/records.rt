@@ -7,11 +7,11 @@ ghost use Rattle.frames.specs.Records.{answered};
 ghost use Rattle.bitpages.specs.Page.{heading, carried, bits};
 ghost use Rattle.bitpages.specs.Table.{size, share};
 
+use bits::power;
 use frames::faults::RecordFault;
 use frames::frame::{Form, Frame};
 use frames::kinds::Kind;
 use frames::reader::FrameReader;
-use functions::power;
 
 /// How many bytes hold a table of n arguments.
 pub(crate) fn size_of(n: usize) -> usize

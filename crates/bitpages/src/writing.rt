@@ -10,10 +10,11 @@ ghost use Rattle.bitpages.specs.Written.{bits_frame};
 ghost use Rattle.bitpages.specs.declared.writing.TableRefusal.TheVariants.{Unwritten};
 
 use crate::records::{share_of, size_of};
+use bits::power;
+use buffers::WriteRefusal;
 use frames::frame::Frame;
 use frames::kinds::Kind;
-use frames::writer::{WriteRefusal, write_frames};
-use functions::power;
+use frames::writer::write_frames;
 
 /// Why a table was not written.
 #[derive(Clone, Copy, PartialEq, Eq, Debug)]

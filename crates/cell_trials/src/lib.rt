@@ -6,9 +6,9 @@ pub mod turned;
 #[cfg(test)]
 mod tests {
     use crate::turned::Turned;
+    use buffers::WriteRefusal;
     use families::family::CellFamily;
     use families::joined::Joined;
-    use families::packing::PackRefusal;
     use families::single::Single;
     use families::tables::{entry_of, widened};
     use rules::counting::Counting;
@@ -54,9 +54,9 @@ mod tests {
     #[test]
     fn short_buffers_are_refused(rt: HostRuntime) {
         let mut out = [7; 4];
-        assert_eq!(rt; Joined.pack(1, &mut out), Err(PackRefusal::TooShort));
+        assert_eq!(rt; Joined.pack(1, &mut out), Err(WriteRefusal::TooShort));
         assert_eq!(rt; out, [7; 4]);
-        assert!(rt; PackRefusal::TooShort.number() == 22);
+        assert!(rt; WriteRefusal::TooShort.number() == 22);
     }
 
     // Whether a family yields each entry of a table that it packs.

@@ -3,8 +3,8 @@
 ghost use Rattle.std.specs.Prelude.{◌≡◌, ◌^◌, ◌<◌, if◌then◌else◌};
 ghost use Rattle.cell_trials.specs.Turned.{turned_byte, turned_packed, turned_reads, turned_laws};
 
+use buffers::{WriteRefusal, put};
 use families::family::CellFamily;
-use families::packing::{PackRefusal, put};
 use families::tables::entry_of;
 
 /// Cells of three pins and one byte, whose bit of weight 2^(7 - E) is the entry E.
@@ -55,7 +55,7 @@ impl CellFamily for Turned {
         1
     }
 
-    fn pack(&self, table: u32, out: &mut [u8]) -> Result<(), PackRefusal> {
+    fn pack(&self, table: u32, out: &mut [u8]) -> Result<(), WriteRefusal> {
         put(&[turned_byte(table)], out)
     }
 

@@ -18,7 +18,7 @@ pub fn value_at<C: Chart>(chart: &C, a: usize) -> bool
 #[cfg(test)]
 mod tests {
     use super::*;
-    use charts::{BitChart, ChartRefusal, Inverting, number_classes};
+    use charts::{BitChart, ChartRefusal, Inverting, Recoding, Stretch, number_classes};
     use std::test::Fail;
 
     fn number(r: Result<(), ChartRefusal>) -> u8 {
@@ -26,6 +26,21 @@ mod tests {
             Ok(_) => 0,
             Err(e) => e.number(),
         }
+    }
+
+    fn recoded(
+        chart: &mut BitChart,
+        bound: usize,
+        codes: usize,
+        places: &[Stretch],
+        class_of: &[usize],
+    ) -> u8 {
+        number(chart.recode(&Recoding {
+            bound,
+            codes,
+            places,
+            class_of,
+        }))
     }
 
     // x0 x1 + x2 x3: the entries 3, 7, 11 and 12 to 15
@@ -42,9 +57,9 @@ mod tests {
             return Err(Fail::new("12 arguments refused"));
         };
         let top = chart.top();
-        assert_eq!(rt; number(chart.recode(0, 1, &[top], &[0, 0])), 20);
+        assert_eq!(rt; recoded(&mut chart, 0, 1, &[top], &[0, 0]), 20);
         assert!(rt; chart.count() == 12);
-        assert_eq!(rt; number(chart.recode(0, 0, &[top], &[0])), 0);
+        assert_eq!(rt; recoded(&mut chart, 0, 0, &[top], &[0]), 0);
         assert!(rt; value_at(&chart, 4095));
         Ok(())
     }
@@ -147,9 +162,9 @@ mod tests {
         let first = BitChart::empty().top();
         assert!(rt; !chart.end(top) && chart.end(first) && !chart.same(most, top, first));
         assert_eq!(rt; number_classes(&chart, most, &mut strip), None);
-        assert_eq!(rt; number(chart.recode(most, 1, &[top], &[0, 0])), 11);
-        assert_eq!(rt; number(chart.recode(0, most, &[top], &[0])), 11);
-        assert_eq!(rt; number(chart.recode(0, 1, &[top], &[0, most])), 11);
+        assert_eq!(rt; recoded(&mut chart, most, 1, &[top], &[0, 0]), 11);
+        assert_eq!(rt; recoded(&mut chart, 0, most, &[top], &[0]), 11);
+        assert_eq!(rt; recoded(&mut chart, 0, 1, &[top], &[0, most]), 11);
         assert!(rt; BitChart::with_entries(most, &[]).is_none());
         Ok(())
     }
@@ -161,11 +176,11 @@ mod tests {
         };
         let mut strip = [chart.top(); 4];
         assert_eq!(rt; number_classes(&chart, 2, &mut strip), Some(2));
-        assert_eq!(rt; number(chart.recode(2, 1, &strip[0..2], &[0, 2])), 11);
-        assert_eq!(rt; number(chart.recode(2, 1, &strip[0..2], &[0])), 11);
-        assert_eq!(rt; number(chart.recode(5, 1, &strip[0..2], &[0, 1])), 11);
+        assert_eq!(rt; recoded(&mut chart, 2, 1, &strip[0..2], &[0, 2]), 11);
+        assert_eq!(rt; recoded(&mut chart, 2, 1, &strip[0..2], &[0]), 11);
+        assert_eq!(rt; recoded(&mut chart, 5, 1, &strip[0..2], &[0, 1]), 11);
         assert!(rt; value_at(&chart, 12) && !value_at(&chart, 4));
-        assert_eq!(rt; number(chart.recode(2, 1, &strip[0..2], &[0, 1])), 0);
+        assert_eq!(rt; recoded(&mut chart, 2, 1, &strip[0..2], &[0, 1]), 0);
         assert!(rt; chart.count() == 3);
         assert!(rt; value_at(&chart, 4) && value_at(&chart, 3) && !value_at(&chart, 1));
         Ok(())

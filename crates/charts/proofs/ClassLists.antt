@@ -1,32 +1,39 @@
 -- Lists of places, one for each class: looking for a class, and one place more.
-use Rattle.std.proofs.Common.{◌≡◌, ℕ, zero, suc, ◌+◌, ◌-◌, ◌<◌, ◌≤◌, min, true, false, List, [], ◌∷◌, ◌++◌, map, length, get_or, take, drop, Some, None, Option, sym, ap, ◌∙◌, subst, inl, inr, add-one, arith}
-use Rattle.std.proofs.lemmas.List.{append_assoc, length-append, length-drop, length-map, length_push, length-take, length-take-le, take-append-drop, take_all, take_at, take-map, take-take, drop-drop, set_split, get_or-take, get_or-map, map_more, map_push}
-use Rattle.std.proofs.lemmas.Bool.{cases_Bool, cases_lt}
+use Rattle.std.proofs.Common.{◌≡◌, ℕ, zero, suc, ◌+◌, ◌-◌, ◌<◌, ◌≤◌, min, List, [], ◌∷◌, ◌++◌, map, length, take, drop, cond, ltb, Some, None, Option, refl, sym, ap, ◌∙◌, inl, inr, add-one, arith}
+use Rattle.std.proofs.lemmas.List.{append_assoc, length-append, length-drop, length-map, length_push, length-take-le, take-append-drop, take_all, take_at, drop-drop, set_split, map_push}
+use Rattle.std.specs.List.{position, position_or_len}
+use Rattle.std.proofs.lemmas.List.Recursion.{is_position_or_len}
+use Rattle.std.proofs.lemmas.Bool.{lt-ltb, cases_Bool, cases_lt}
+use Rattle.std.proofs.lemmas.Bool.Decides.{nat_tests}
 use Rattle.functions.specs.Functions.{Fn}
-use Rattle.functions.specs.Classes.{same_fn, among, noted}
-use Rattle.functions.proofs.Values.{same-sound}
-use Rattle.functions.proofs.Classes.{among_push, among-at, place_at}
+use Rattle.functions.specs.Classes.{same_fn, among, place_of, noted}
 use Rattle.charts.specs.ClassLists.{Found, Noted, joined_by, first_places, laid}
 
 -- ---- looking for the class of p among the first n places
 
-module _ {P : Type 0} (mean : P → Fn) (p : P) (xs : List P) (i : ℕ) (x : P) (within : i < length xs) (is : x ≡ get_or xs i x) (none : among (mean p) (map mean (take i xs)) ≡ false) where
-  pub find_more : false ≡ same_fn (mean x) (mean p) → among (mean p) (map mean (take (i + 1) xs)) ≡ false
-  find_more other =
-      ap (among (mean p)) (map_more mean xs i x within)
-      ∙ among_push (mean p) (map mean (take i xs)) (mean (get_or xs i x))
-      ∙ rw (none, ← is, ← other)
+test-suc : (m n : ℕ) → ltb m n ≡ ltb (suc m) (suc n)
+test-suc m n = grind (arith, nat_tests)
 
-  pub find_here : (n : ℕ) → i < n → true ≡ same_fn (mean x) (mean p) → Found mean p (take n xs) (Some i)
-  find_here n less same =
-      let fs = map mean (take n xs) in
-      let long : i < length fs = rw (length-map (take n xs) mean, length-take n xs) (omega arith) in
-      let here : get_or fs i (mean p) ≡ mean p =
-      get_or-map mean (take n xs) i x (mean p) (rw length-map at long) ∙ ap mean (get_or-take n xs i x less ∙ sym is) ∙ same-sound (mean x) (mean p) (sym same) in
-      let front : take i fs ≡ map mean (take i xs) = take-map mean i (take n xs) ∙ ap (map mean) (take-take i n xs (omega arith)) in (
-        subst (λ f. among f fs ≡ true) here (among-at fs i (mean p) long),
-        sym (place_at (mean p) fs i (mean p) long (ap (among (mean p)) front ∙ none) here),
-      )
+among_is : (f : Fn) (gs : List Fn) → among f gs ≡ ltb (place_of f gs) (length gs)
+among_is f [] = refl
+among_is f (g ∷ gs) = elim (cases_Bool (same_fn g f)) [
+  | inl e ↦ rw e (sym (lt-ltb 0 (suc (length gs)) (omega arith)))
+  | inr e ↦ rw (e, among_is f gs) (test-suc (place_of f gs) (length gs))
+]
+
+module _ {P : Type 0} (mean : P → Fn) (p : P) where
+  place_is : (xs : List P) → place_of (mean p) (map mean xs) ≡ position_or_len (λ x. same_fn (mean x) (mean p)) xs
+  place_is = is_position_or_len (λ xs. place_of (mean p) (map mean xs)) (λ x. same_fn (mean x) (mean p)) refl (λ x xs. ap (cond (same_fn (mean x) (mean p)) 0) (omega arith))
+
+  pub found : (xs : List P) (r : Option ℕ) → r ≡ position (λ x. same_fn (mean x) (mean p)) xs → Found mean p xs r
+  found xs r e =
+      let fs = map mean xs in
+      let at = place_is xs in
+      let here : among (mean p) fs ≡ ltb (position_or_len (λ x. same_fn (mean x) (mean p)) xs) (length xs) = among_is (mean p) fs ∙ rw (at, length-map) in
+      elim (cases_Bool (among (mean p) fs)) [
+        | inl t ↦ rw (e, ← here, t) (t, sym at)
+        | inr t ↦ rw (e, ← here, t) t
+      ]
 
 pub take_min : {P : Type 0} (n : ℕ) (xs : List P) → take (min n (length xs)) xs ≡ take n xs
 take_min n xs = elim (cases_lt n (length xs)) [

@@ -1,5 +1,5 @@
 -- What the laws of a chart give at every place and depth.
-use Rattle.std.proofs.Common.{◌≡◌, ℕ, zero, suc, ◌+◌, ◌-◌, ◌≤◌, Bool, true, false, List, [], ◌∷◌, length, sym, refl, ap, ◌∙◌, subst, inl, inr, arith}
+use Rattle.std.proofs.Common.{◌≡◌, ℕ, zero, suc, ◌+◌, ◌-◌, ◌/◌, ◌%◌, ◌^◌, ◌<◌, ◌≤◌, eqb, Bool, true, false, List, [], ◌∷◌, length, sym, refl, ap, ◌∙◌, subst, inl, inr, arith}
 use Rattle.std.proofs.lemmas.Bool.{cases_lt}
 use Rattle.functions.specs.Words.{bits}
 use Rattle.functions.specs.Functions.{Fn, bit, fork, Arity, cofactor, under}
@@ -42,6 +42,10 @@ module _ {C P : Type 0} (arity : C → ℕ) (column : C → ℕ → P → Fn) (n
   pub led-stays : (c : C) (d : ℕ) (p : P) (xs : List Bool) → arity c ≤ d → led (next c) d p xs ≡ p
   led-stays c d p [] h = refl
   led-stays c d p (x ∷ xs) h = led-stays c (d + 1) (next c d p x) xs (omega arith) ∙ laws.stays c d p x h
+
+-- a word of bits leads on by its first
+pub led_more : {P : Type 0} (next : ℕ → P → Bool → P) (d : ℕ) (p : P) (b a : ℕ) → d < b → led next d p (bits (b - d) a) ≡ led next (d + 1) (next d p (eqb (a / 2 ^ (b - (d + 1)) % 2) 1)) (bits (b - (d + 1)) a)
+led_more next d p b a h = let more : b - d ≡ suc (b - (d + 1)) = omega arith in rw more
 
 pub reached-means : {C P : Type 0} (ch : chart.Ghosts C P) (c : C) (b a : ℕ) → ch.column c b (reached ch c b a) ≡ under (chart_function ch c) (bits b a)
 reached-means ch c b a =

@@ -2,7 +2,7 @@
 use Rattle.std.specs.Prelude.{◌≡◌, ℕ, ◌^◌, ◌≤◌, Bool, false, List, length, Some, None, Option, slice_index_or}
 use Rattle.functions.specs.Functions.{Fn, Arity, tree}
 use Rattle.charts.specs.Stretches.{stretch_column, all_of}
-use Rattle.charts.specs.declared.bits.BitChart.{BitChart}
+use Rattle.charts.specs.declared.bit_chart.BitChart.{BitChart}
 
 -- f has at most n arguments
 pub record AtMost (n : ℕ) (f : Fn) : Type 0 where

@@ -7,8 +7,8 @@ use Rattle.functions.specs.Functions.{bit, fork, tree}
 use Rattle.functions.proofs.Rows.{tree-same}
 use Rattle.charts.specs.Laws.{Laws}
 use Rattle.charts.specs.Stretches.{there, entry_of, stretch_column, nowhere, half_of, onward}
-use Rattle.charts.specs.declared.bits.Stretch.{Stretch}
-use Rattle.charts.specs.declared.bits.BitChart.{BitChart}
+use Rattle.charts.specs.declared.bit_chart.Stretch.{Stretch}
+use Rattle.charts.specs.declared.bit_chart.BitChart.{BitChart}
 
 there_nowhere : (m k : ℕ) → there m k nowhere ≡ false
 there_nowhere m k = and_left (0 == 2 ^ k) (nat_le (0 + 0) (2 ^ m)) (ne_eqb 0 (2 ^ k) (λ e. omega (arith, pow_pos k)))

@@ -1,7 +1,7 @@
 -- What a stretch of a table means at a depth, and where a step leads from it.
 use Rattle.std.specs.Prelude.{ℕ, ◌+◌, ◌-◌, ◌^◌, Bool, false, cond, ◌&&◌, List, ◌==◌, nat_le, nat_lt, slice_index_or}
 use Rattle.functions.specs.Functions.{Fn, tree}
-use Rattle.charts.specs.declared.bits.Stretch.{Stretch}
+use Rattle.charts.specs.declared.bit_chart.Stretch.{Stretch}
 
 -- whether a table of m arguments has the stretch as one of k arguments
 abbrev pub there : ℕ → ℕ → Stretch → Bool

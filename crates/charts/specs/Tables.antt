@@ -1,7 +1,7 @@
 -- The entries of a table, and where the entries of a changed table come from.
 use Rattle.std.specs.Prelude.{◌≡◌, ℕ, ◌+◌, ◌-◌, ◌*◌, ◌/◌, ◌%◌, ◌^◌, ◌<◌, Bool, false, cond, List, length, ◌==◌, slice_index, slice_index_or}
 use Rattle.charts.specs.Stretches.{entry_of, nowhere}
-use Rattle.charts.specs.declared.bits.Stretch.{Stretch}
+use Rattle.charts.specs.declared.bit_chart.Stretch.{Stretch}
 
 -- a table of 4096 entries, of which the first n are those of t
 pub record Filled (n : ℕ) (t : ℕ → Bool) (table : List Bool) : Type 0 where

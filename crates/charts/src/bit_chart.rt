@@ -1,27 +1,32 @@
-ghost use Rattle.std.specs.Prelude.{◌≡◌, ℕ, ◌+◌, ◌-◌, ◌/◌, ◌^◌, ◌<◌, ◌≤◌, false, length, Decides, slice_index_or};
+ghost use Rattle.std.specs.Prelude.{◌≡◌, ℕ, ◌+◌, ◌-◌, ◌^◌, ◌<◌, ◌≤◌, false, length, Decides, slice_index_or};
 ghost use Rattle.functions.specs.Functions.{bit};
+ghost use Rattle.charts.specs.Changes.{Recodable};
 ghost use Rattle.charts.specs.Stretches.{there, entry_of, stretch_column, all_of, onward};
 ghost use Rattle.charts.specs.Tables.{Filled, source_of, exchanged_entry, row_entry};
-ghost use Rattle.charts.specs.BitCharts.{AtMost, bit_function, BitFunctionLaws, Loaded};
-ghost use Rattle.charts.specs.BitLaws.{bit_laws};
 
-use super::bits::{BitChart, ENTRIES, MOST, Stretch};
-use super::chart::{Chart, recodable};
+use super::chart::{Chart, Recoding};
 use super::refusal::ChartRefusal;
-use functions::power;
+use bits::power;
 
-/// A bit chart means the function of its table's entries, which has as many arguments and fits.
-pub fn bit_functions_lawful()
-    ensures { BitFunctionLaws }
-{}
+/// The most arguments that a bit chart takes.
+const MOST: usize = 12;
 
-/// Whether a table of `m` arguments has the place as a stretch of `k` arguments.
-fn has(m: usize, k: usize, place: Stretch) -> bool
-    requires small { m ≤ 12 }
-    requires within { k ≤ m }
-    ensures { result ≡ there m k place }
-{
-    place.len == power(k) && place.start <= power(m) - place.len
+/// The entries of its table, 2^`MOST`.
+const ENTRIES: usize = 4096;
+
+/// A stretch of a bit chart's table.
+#[derive(Clone, Copy)]
+pub struct Stretch {
+    start: usize,
+    len: usize,
+}
+
+/// A function of at most 12 arguments by its table, the entry of the assignment number `i` at `i`.
+#[derive(Clone, Copy)]
+pub struct BitChart {
+    table: [bool; ENTRIES],
+    count: usize,
+    ghost small: { count ≤ 12 },
 }
 
 /// Where the entry `i` comes from when the arguments of weight 2`h` and `h` are exchanged.
@@ -40,7 +45,23 @@ fn source(h: usize, i: usize) -> usize
     y * h + i % h
 }
 
+/// A table whose first `n` entries are those that `entry` gives.
+fn filled<F: Fn(usize) -> bool>(n: usize, entry: F) -> [bool; ENTRIES]
+    requires room { n ≤ 4096 }
+    requires known { (i : ℕ) → i < n → F.pre entry i }
+    ensures long { length result ≡ 4096 }
+    ensures each { (i : ℕ) → i < n → F.post entry i (slice_index_or result i false) }
+{
+    let mut table = [false; ENTRIES];
+    for (i, bit) in table[..n].iter_mut().enumerate() {
+        *bit = entry(i);
+    }
+    table
+}
+
 impl BitChart {
+    ghost use Rattle.charts.specs.BitCharts.{bit_function, Loaded};
+
     /// The constant 0 of no arguments.
     pub fn empty() -> BitChart
         ensures { bit_function result ≡ bit false }
@@ -51,6 +72,7 @@ impl BitChart {
         }
     }
 
+    #[tactic(auto, using(crate::proofs::Stretches::table_size))]
     /// The function of `n` arguments with these entries: none if there are more than 12 arguments, or not 2^`n` entries.
     pub fn with_entries(n: usize, entries: &[bool]) -> Option<BitChart>
         ensures { Loaded n entries.now result }
@@ -59,83 +81,87 @@ impl BitChart {
             return None;
         }
         let mut table = [false; ENTRIES];
-        for i in 0..entries.len() {
-            table[i] = entries[i];
-        }
+        table[..entries.len()].copy_from_slice(entries);
         Some(BitChart { table, count: n })
     }
 
-    /// The entry `i` of a place of `k` arguments: 0 if the chart lacks the place.
-    fn entry(&self, k: usize, place: Stretch, i: usize) -> bool
-        requires within { k ≤ self.now.count }
-        requires inside { i < 2 ^ k }
-        ensures { result ≡ entry_of self.now.count self.now.table k place i }
+    #[tactic(auto, using(crate::proofs::Stretches::table_size))]
+    /// How many entries a place at a depth has.
+    fn size(&self, depth: usize) -> usize
+        ensures value { result ≡ 2 ^ (self.now.count - depth) }
+        ensures few { result ≤ 4096 }
     {
-        if has(self.count, k, place) {
-            self.table[place.start + i]
-        } else {
-            false
-        }
+        power(self.count.saturating_sub(depth))
     }
 
-    /// Whether two places of `k` arguments have the same entry `i`.
-    fn agree(&self, k: usize, a: Stretch, b: Stretch, i: usize) -> bool
-        requires within { k ≤ self.now.count }
-        requires inside { i < 2 ^ k }
-        ensures { Decides result (entry_of self.now.count self.now.table k a i ≡ entry_of self.now.count self.now.table k b i) }
+    #[tactic(auto, using(crate::proofs::Stretches::part_fits, crate::proofs::Stretches::there_test))]
+    /// Whether the chart has the place at a depth.
+    fn has(&self, depth: usize, place: Stretch) -> bool
+        ensures { result ≡ there self.now.count (self.now.count - depth) place }
     {
-        self.entry(k, a, i) == self.entry(k, b, i)
+        place.len == self.size(depth) && place.start <= self.size(0) - place.len
     }
 
-    /// How many arguments are left at a depth.
-    fn left(&self, depth: usize) -> usize
-        ensures { result ≡ self.now.count - depth }
+    /// The entry `i` of a place at a depth: 0 if the chart lacks the place.
+    fn entry(&self, depth: usize, place: Stretch, i: usize) -> bool
+        requires { i < 2 ^ (self.now.count - depth) }
+        ensures { result ≡ entry_of self.now.count self.now.table (self.now.count - depth) place i }
     {
-        self.count.saturating_sub(depth)
+        self.has(depth, place) && self.table[place.start + i]
     }
 
-    /// The table with the arguments of weight 2^(`k` + 1) and 2^`k` exchanged.
+    /// Whether two places at a depth have the same entry `i`.
+    fn agree(&self, depth: usize, a: Stretch, b: Stretch, i: usize) -> bool
+        requires { i < 2 ^ (self.now.count - depth) }
+        ensures { Decides result (entry_of self.now.count self.now.table (self.now.count - depth) a i ≡ entry_of self.now.count self.now.table (self.now.count - depth) b i) }
+    {
+        self.entry(depth, a, i) == self.entry(depth, b, i)
+    }
+
+    /// The entry `i` once the arguments of weight 2^(`k` + 1) and 2^`k` are exchanged.
+    fn exchanged_entry(&self, k: usize, i: usize) -> bool
+        requires two { k + 2 ≤ self.now.count }
+        requires inside { i < 2 ^ self.now.count }
+        ensures { result ≡ exchanged_entry self.now.table k i }
+    {
+        self.table[source(power(k), i)]
+    }
+
+    /// The table with these arguments exchanged.
     fn exchanged(&self, k: usize) -> [bool; ENTRIES]
         requires { k + 2 ≤ self.now.count }
         ensures { Filled (2 ^ self.now.count) (exchanged_entry self.now.table k) result }
     {
-        let h = power(k);
-        let mut table = [false; ENTRIES];
-        for i in 0..power(self.count) {
-            table[i] = self.table[source(h, i)];
-        }
-        table
+        filled(self.size(0), |i| self.exchanged_entry(k, i))
     }
 
-    /// The entry `x` of rows of `k` arguments: the row of a code is the place of its class.
-    fn row_entry(&self, k: usize, places: &[Stretch], class_of: &[usize], x: usize) -> bool
-        requires within { k ≤ self.now.count }
-        requires coded { x / 2 ^ k < length class_of.now }
-        requires placed { slice_index_or class_of.now (x / 2 ^ k) 0 < length places.now }
-        ensures { result ≡ row_entry self.now.count self.now.table k places.now class_of.now x }
+    /// The entry `x` of the recoded table: the row of a code is the place of its class.
+    fn row_entry(&self, recoding: &Recoding<Stretch>, x: usize) -> bool
+        requires ready { Recodable self.now.count recoding.now.bound recoding.now.codes (length recoding.now.places.now) recoding.now.class_of.now }
+        requires inside { x < 2 ^ (self.now.count - recoding.now.bound + recoding.now.codes) }
+        ensures { result ≡ row_entry self.now.count self.now.table (self.now.count - recoding.now.bound) recoding.now.places.now recoding.now.class_of.now x }
     {
-        let size = power(k);
-        let place = places[class_of[x / size]];
-        self.entry(k, place, x % size)
+        let size = self.size(recoding.bound);
+        let place = recoding.places[recoding.class_of[x / size]];
+        self.entry(recoding.bound, place, x % size)
     }
 
-    /// The table of 2^`j` rows of `k` arguments.
-    fn rows(&self, k: usize, j: usize, places: &[Stretch], class_of: &[usize]) -> [bool; ENTRIES]
-        requires within { k ≤ self.now.count }
-        requires small { k + j ≤ 12 }
-        requires coded { 2 ^ j ≤ length class_of.now }
-        requires placed { (q : ℕ) → q < 2 ^ j → slice_index_or class_of.now q 0 < length places.now }
-        ensures { Filled (2 ^ (k + j)) (row_entry self.now.count self.now.table k places.now class_of.now) result }
+    #[tactic(auto, using(crate::proofs::Stretches::table_size))]
+    /// The recoded table, one row for each code.
+    fn rows(&self, recoding: &Recoding<Stretch>) -> [bool; ENTRIES]
+        requires ready { Recodable self.now.count recoding.now.bound recoding.now.codes (length recoding.now.places.now) recoding.now.class_of.now }
+        requires small { self.now.count - recoding.now.bound + recoding.now.codes ≤ 12 }
+        ensures { Filled (2 ^ (self.now.count - recoding.now.bound + recoding.now.codes)) (row_entry self.now.count self.now.table (self.now.count - recoding.now.bound) recoding.now.places.now recoding.now.class_of.now) result }
     {
-        let mut table = [false; ENTRIES];
-        for x in 0..power(k + j) {
-            table[x] = self.row_entry(k, places, class_of, x);
-        }
-        table
+        let count = self.count - recoding.bound + recoding.codes;
+        filled(power(count), |x| self.row_entry(recoding, x))
     }
 }
 
 impl Chart for BitChart {
+    ghost use Rattle.charts.specs.BitCharts.{AtMost};
+    ghost use Rattle.charts.specs.BitLaws.{bit_laws};
+
     type Place = Stretch;
 
     ghost arity = { λ s. s.count };
@@ -157,19 +183,18 @@ impl Chart for BitChart {
     fn top(&self) -> Stretch {
         Stretch {
             start: 0,
-            len: power(self.count),
+            len: self.size(0),
         }
     }
 
     fn step(&self, depth: usize, place: Stretch, value: bool) -> Stretch {
-        let m = self.count;
-        if depth >= m {
+        if depth >= self.count {
             return place;
         }
-        if !has(m, m - depth, place) {
+        if !self.has(depth, place) {
             return Stretch { start: 0, len: 0 };
         }
-        let half = power(m - (depth + 1));
+        let half = self.size(depth + 1);
         let start = if value {
             place.start + half
         } else {
@@ -179,17 +204,11 @@ impl Chart for BitChart {
     }
 
     fn same(&self, depth: usize, a: Stretch, b: Stretch) -> bool {
-        let k = self.left(depth);
-        for i in 0..power(k) {
-            if !self.agree(k, a, b, i) {
-                return false;
-            }
-        }
-        true
+        (0..self.size(depth)).all(|i| self.agree(depth, a, b, i))
     }
 
     fn end(&self, place: Stretch) -> bool {
-        self.entry(0, place, 0)
+        self.entry(self.count, place, 0)
     }
 
     fn swap(&mut self, p: usize) -> Result<(), ChartRefusal> {
@@ -202,24 +221,17 @@ impl Chart for BitChart {
         Ok(())
     }
 
-    fn recode(
-        &mut self,
-        b: usize,
-        j: usize,
-        places: &[Stretch],
-        class_of: &[usize],
-    ) -> Result<(), ChartRefusal> {
-        let m = self.count;
-        if !recodable(m, b, j, places.len(), class_of) {
+    fn recode(&mut self, recoding: &Recoding<Stretch>) -> Result<(), ChartRefusal> {
+        if !recoding.in_range(self.count) {
             return Err(ChartRefusal::OutOfRange);
         }
-        let left = m - b;
-        if left + j > MOST {
+        let count = self.count - recoding.bound + recoding.codes;
+        if count > MOST {
             return Err(ChartRefusal::DoesNotFit);
         }
-        let table = self.rows(left, j, places, class_of);
+        let table = self.rows(recoding);
         self.table = table;
-        self.count = left + j;
+        self.count = count;
         Ok(())
     }
 }

@@ -1,11 +1,11 @@
-ghost use Rattle.std.specs.Prelude.{◌≡◌, ℕ, Bool, Decides};
+ghost use Rattle.std.specs.Prelude.{◌≡◌, ℕ, Bool, Decides, length};
 ghost use Rattle.functions.specs.Functions.{Fn, bit};
 ghost use Rattle.functions.specs.Classes.{same_fn};
 ghost use Rattle.charts.specs.Laws.{Laws};
 ghost use Rattle.charts.specs.Changes.{Recodable, Swap, Recode};
 
 use super::refusal::ChartRefusal;
-use functions::power;
+use bits::power;
 
 /// A Boolean function of at most 16 arguments, as places that are stepped through from the root.
 ///
@@ -59,29 +59,35 @@ pub trait Chart {
     fn swap(&mut self, p: usize) -> Result<(), ChartRefusal>
         ensures { Swap arity column root fits p self.old self.new result };
 
-    /// Replaces the first `b` arguments by `j`: the code that these make chooses the column of its class.
-    /// `class_of` has the class of each code, and `places` the place of each class at depth `b`.
-    fn recode(
-        &mut self,
-        b: usize,
-        j: usize,
-        places: &[Self::Place],
-        class_of: &[usize],
-    ) -> Result<(), ChartRefusal>
-        ensures { Recode arity column root fits b j places.now class_of.now self.old self.new result };
+    /// Replaces the first `bound` arguments by `codes`: the code that these make chooses the column of its class.
+    fn recode(&mut self, recoding: &Recoding<Self::Place>) -> Result<(), ChartRefusal>
+        ensures { Recode arity column root fits recoding.now.bound recoding.now.codes recoding.now.places.now recoding.now.class_of.now self.old self.new result };
 }
 
-/// Whether a recode of a function of `m` arguments is in range, where there are `places` places.
-pub fn recodable(m: usize, b: usize, j: usize, places: usize, class_of: &[usize]) -> bool
-    ensures { Decides result (Recodable m b j places class_of.now) }
-{
-    if b > m || j > 4 || m - b > 16 - j || class_of.len() < power(j) {
-        return false;
-    }
-    for q in 0..power(j) {
-        if class_of[q] >= places {
+/// Another code for the first arguments of a function.
+#[derive(Clone, Copy)]
+pub struct Recoding<'a, P> {
+    /// How many of the first arguments are replaced.
+    pub bound: usize,
+    /// How many arguments, the bits of the code, take their place.
+    pub codes: usize,
+    /// The place of each class at depth `bound`.
+    pub places: &'a [P],
+    /// The class of each code.
+    pub class_of: &'a [usize],
+}
+
+impl<'a, P> Recoding<'a, P> {
+    /// Whether a function of `m` arguments can be recoded so.
+    pub fn in_range(&self, m: usize) -> bool
+        ensures { Decides result (Recodable m self.now.bound self.now.codes (length self.now.places.now) self.now.class_of.now) }
+    {
+        let (b, j) = (self.bound, self.codes);
+        if b > m || j > 4 || m - b > 16 - j || self.class_of.len() < power(j) {
             return false;
         }
+        self.class_of[..power(j)]
+            .iter()
+            .all(|&class| class < self.places.len())
     }
-    true
 }

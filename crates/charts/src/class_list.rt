@@ -3,29 +3,18 @@ ghost use Rattle.charts.specs.ClassLists.{Found, Noted};
 
 use super::chart::Chart;
 
-/// Where among the first `count` places the first stands that means what `place` means.
+/// Where among the places the first stands that means what `place` means.
 pub fn find<C: Chart>(
     chart: &C,
     depth: usize,
     places: &[C::Place],
-    count: usize,
     place: C::Place,
 ) -> Option<usize>
-    ensures { Found (C.Chart.column chart.now depth) place (take count places.now) result }
+    ensures { Found (C.Chart.column chart.now depth) place places.now result }
 {
-    for i in 0..count.min(places.len()) {
-        if chart.same(depth, places[i], place) {
-            return Some(i);
-        }
-    }
-    None
-}
-
-fn append<P: Copy>(places: &mut [P], count: usize, place: P)
-    requires { count < length places.old }
-    ensures { places.new ≡ slice_set places.old count place }
-{
-    places[count] = place;
+    places
+        .iter()
+        .position(|&other| chart.same(depth, other, place))
 }
 
 /// A list of places, one for each class, in a strip that was lent: the first `count` of it are the list.
@@ -56,7 +45,8 @@ impl<'a, P: Copy> ClassList<'a, P> {
     pub fn class_of<C: Chart<Place = P>>(&self, chart: &C, depth: usize, place: P) -> Option<usize>
         ensures { Found (C.Chart.column chart.now depth) place (take self.now.count self.now.places.now) result }
     {
-        find(chart, depth, self.places, self.count, place)
+        let count = self.count.min(self.places.len());
+        find(chart, depth, &self.places[..count], place)
     }
 
     /// The number of the class of `place`, which joins the list if its class is new: none if there is no room for it.
@@ -71,7 +61,7 @@ impl<'a, P: Copy> ClassList<'a, P> {
         if n >= self.places.len() {
             return None;
         }
-        append(&mut *self.places, n, place);
+        self.places[n] = place;
         self.count = n + 1;
         Some(n)
     }

@@ -2,7 +2,7 @@ ghost use Rattle.std.specs.Prelude.{◌≡◌};
 ghost use Rattle.functions.specs.Functions.{negated};
 ghost use Rattle.charts.specs.InvertingLaws.{inverting_laws};
 
-use super::chart::Chart;
+use super::chart::{Chart, Recoding};
 use super::refusal::ChartRefusal;
 
 /// The negation of what the chart below means.
@@ -67,13 +67,7 @@ impl<C: Chart> Chart for Inverting<C> {
         self.below.swap(p)
     }
 
-    fn recode(
-        &mut self,
-        b: usize,
-        j: usize,
-        places: &[C::Place],
-        class_of: &[usize],
-    ) -> Result<(), ChartRefusal> {
-        self.below.recode(b, j, places, class_of)
+    fn recode(&mut self, recoding: &Recoding<C::Place>) -> Result<(), ChartRefusal> {
+        self.below.recode(recoding)
     }
 }

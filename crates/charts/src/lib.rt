@@ -3,19 +3,19 @@
 #![tactic(auto)]
 
 mod bit_chart;
-mod bits;
 mod chart;
 mod class_list;
 mod inverting;
+mod laws;
 mod numbering;
 mod refusal;
 mod walks;
 
-pub use bit_chart::bit_functions_lawful;
-pub use bits::{BitChart, Stretch};
-pub use chart::{Chart, recodable};
+pub use bit_chart::{BitChart, Stretch};
+pub use chart::{Chart, Recoding};
 pub use class_list::{ClassList, find};
 pub use inverting::Inverting;
+pub use laws::{bit_functions_lawful, columns_lawful};
 pub use numbering::number_classes;
 pub use refusal::ChartRefusal;
-pub use walks::{columns_lawful, walk};
+pub use walks::walk;

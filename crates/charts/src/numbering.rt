@@ -3,7 +3,7 @@ ghost use Rattle.charts.specs.Numbering.{Numbers};
 use super::chart::Chart;
 use super::class_list::ClassList;
 use super::walks::walk;
-use functions::power;
+use bits::power;
 
 /// How many classes the columns at the first `b` arguments have, numbered by first appearance.
 /// The strip then begins with the place of each class, that of its first bound assignment.

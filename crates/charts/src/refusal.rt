@@ -2,12 +2,12 @@ ghost use Rattle.std.specs.Prelude.{◌≡◌};
 ghost use Rattle.charts.specs.Refusals.{refusal_number};
 
 /// Why a chart refuses to take on another function.
-#[derive(Clone, Copy)]
+#[derive(Clone, Copy, PartialEq, Eq, Debug)]
 pub enum ChartRefusal {
     /// The arguments, codes or places named are not all there.
-    OutOfRange,
+    OutOfRange = 11,
     /// The new function is not one that fits the chart.
-    DoesNotFit,
+    DoesNotFit = 20,
 }
 
 impl ChartRefusal {
@@ -15,9 +15,6 @@ impl ChartRefusal {
     pub fn number(&self) -> u8
         ensures { result ≡ refusal_number self.now }
     {
-        match self {
-            ChartRefusal::OutOfRange => 11,
-            ChartRefusal::DoesNotFit => 20,
-        }
+        *self as u8
     }
 }

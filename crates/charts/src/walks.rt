@@ -1,22 +1,12 @@
-ghost use Rattle.std.specs.Prelude.{◌≡◌, ◌/◌, ◌%◌, ◌^◌, ◌==◌};
+ghost use Rattle.std.specs.Prelude.{◌≡◌};
 ghost use Rattle.functions.specs.Words.{bits};
 ghost use Rattle.functions.specs.Functions.{under};
-ghost use Rattle.charts.specs.Walks.{ColumnArities, chart_function, reached};
+ghost use Rattle.charts.specs.Walks.{chart_function, reached};
 
 use super::chart::Chart;
+use bits::bit_of;
 
-/// Every column of a chart is a function of the arguments that are left at its depth.
-pub fn columns_lawful<C: Chart>()
-    ensures { ColumnArities C.Chart }
-{}
-
-/// Whether the number `a` has the bit of weight 2^`k`.
-fn digit(a: usize, k: usize) -> bool
-    ensures { result ≡ (a / 2 ^ k % 2 == 1) }
-{
-    k < 64 && (a >> k) % 2 == 1
-}
-
+#[tactic(auto, using(crate::proofs::Meanings::led_more))]
 /// The place that the assignment number `a` of the first `b` arguments leads to.
 pub fn walk<C: Chart>(chart: &C, b: usize, a: usize) -> C::Place
     ensures place { result ≡ reached C.Chart chart.now b a }
@@ -24,7 +14,7 @@ pub fn walk<C: Chart>(chart: &C, b: usize, a: usize) -> C::Place
 {
     let mut place = chart.top();
     for depth in 0..b.min(chart.count()) {
-        place = chart.step(depth, place, digit(a, b - (depth + 1)));
+        place = chart.step(depth, place, bit_of(a as u64, b - (depth + 1)));
     }
     place
 }

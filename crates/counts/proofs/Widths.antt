@@ -1,5 +1,5 @@
 -- Class counts by width, and their lines one after another.
-use Rattle.std.proofs.Common.{◌≡◌, ℕ, suc, ◌+◌, ◌≤◌, min, List, ◌++◌, length, Some, None, Option, refl, ap, ◌∙◌, append_assoc, arith, pow_mono}
+use Rattle.std.proofs.Common.{◌≡◌, ℕ, suc, ◌+◌, ◌-◌, ◌≤◌, min, List, ◌++◌, length, Some, None, Option, refl, ap, ◌∙◌, append_assoc, arith, pow_mono}
 use Rattle.functions.specs.Functions.{Fn}
 use Rattle.charts.specs.declared.Chart as chart
 use Rattle.charts.specs.Numbering.{Numbers}
@@ -12,24 +12,24 @@ counted ch c b before after (Some n) room small h = (h.0.bound, small, h.1.count
 counted ch c b before after None room small h = λ bound _. h.1 (record { bound = bound; room = omega (arith, room, pow_mono small) })
 
 -- a width more, where there is one
-module _ (m i : ℕ) (f : Fn) (said : List ℕ) (so_far : said ≡ inputs_text m ++ widths_text (min i m) f) where
-  pub width-more : (o : Option ℕ) (n : ℕ) (line now-said : List ℕ) → o ≡ Some n → Counted m f (i + 1) o → line ≡ width_text (i + 1) n → now-said ≡ said ++ line → now-said ≡ inputs_text m ++ widths_text (min (i + 1) m) f
+module _ (m w : ℕ) (f : Fn) (said : List ℕ) (some : 1 ≤ w) (so_far : said ≡ inputs_text m ++ widths_text (min (w - 1) m) f) where
+  pub width-more : (o : Option ℕ) (n : ℕ) (line now-said : List ℕ) → o ≡ Some n → Counted m f w o → line ≡ width_text w n → now-said ≡ said ++ line → now-said ≡ inputs_text m ++ widths_text (min (w + 1 - 1) m) f
   width-more o n line now-said is counts line-is now-is =
-      let h : Counted m f (i + 1) (Some n) = rw is at counts in
-      let within : i + 1 ≤ m = h.0 in
-      let a : suc i ≡ min (i + 1) m = omega arith in
-      let b : min i m ≡ i = omega arith in
-      let s : i + 1 ≡ suc i = omega arith in
+      let h : Counted m f w (Some n) = rw is at counts in
+      let within : w ≤ m = h.0 in
+      let a : suc (w - 1) ≡ min (w + 1 - 1) m = omega arith in
+      let b : min (w - 1) m ≡ w - 1 = omega arith in
+      let s : w ≡ suc (w - 1) = omega arith in
       now-is
       ∙ (λ t. so_far t ++ line-is t)
-      ∙ append_assoc (inputs_text m) (widths_text (min i m) f) (width_text (i + 1) n)
-      ∙ ap (λ (k : ℕ). inputs_text m ++ (widths_text (min i m) f ++ width_text (i + 1) k)) h.2
+      ∙ append_assoc (inputs_text m) (widths_text (min (w - 1) m) f) (width_text w n)
+      ∙ ap (λ (k : ℕ). inputs_text m ++ (widths_text (min (w - 1) m) f ++ width_text w k)) h.2
       ∙ (λ t. inputs_text m ++ (widths_text (b t) f ++ width_text (s t) (class_count (s t) f)))
       ∙ ap (λ (k : ℕ). inputs_text m ++ widths_text k f) a
 
-  pub width-none : (o : Option ℕ) (now-said : List ℕ) → ((n : ℕ) → o ≡ Some n → ⊥) → Counted m f (i + 1) o → i + 1 ≤ 5 → now-said ≡ said → now-said ≡ inputs_text m ++ widths_text (min (i + 1) m) f
+  pub width-none : (o : Option ℕ) (now-said : List ℕ) → ((n : ℕ) → o ≡ Some n → ⊥) → Counted m f w o → w ≤ 5 → now-said ≡ said → now-said ≡ inputs_text m ++ widths_text (min (w + 1 - 1) m) f
   width-none None now-said none counts few now-is =
-      let past : i + 1 ≤ m → ⊥ = λ within. counts within few in
-      let a : min i m ≡ min (i + 1) m = omega (arith, past) in
+      let past : w ≤ m → ⊥ = λ within. counts within few in
+      let a : min (w - 1) m ≡ min (w + 1 - 1) m = omega (arith, past) in
       now-is ∙ so_far ∙ ap (λ (k : ℕ). inputs_text m ++ widths_text k f) a
   width-none (Some n) now-said none counts few now-is = absurd (none n refl)

@@ -1,7 +1,7 @@
 //! How many classes a function has at each width of its first arguments, in words.
 #![tactic(auto)]
 
-ghost use Rattle.std.specs.Prelude.{◌≡◌, IfOk, vec_len, string_bytes};
+ghost use Rattle.std.specs.Prelude.{◌≡◌, IfOk, string_bytes};
 ghost use Rattle.charts.specs.Walks.{chart_function};
 ghost use Rattle.counts.specs.Counts.{inputs_text, width_text, counts_text, Counted};
 
@@ -11,17 +11,6 @@ use std::alloc::{AllocError, Global};
 /// The greatest width that is counted.
 const WIDEST: usize = 5;
 
-/// A strip with room for the classes of five arguments.
-fn strip_for<C: Chart>(heap: Global, chart: &C) -> Result<Vec<C::Place>, AllocError>
-    ensures { IfOk result (λ v. vec_len v ≡ 32) }
-{
-    let mut strip = Vec::new(heap);
-    for _i in 0..32usize {
-        strip.push(chart.top())?;
-    }
-    Ok(strip)
-}
-
 /// How many classes a chart's function has at its first `b` arguments; none where it has fewer, or `b` is above 5.
 pub fn class_count<C: Chart>(heap: Global, chart: &C, b: usize) -> Result<Option<usize>, AllocError>
     ensures { IfOk result (Counted (C.Chart.arity chart.now) (chart_function C.Chart chart.now) b) }
@@ -29,7 +18,7 @@ pub fn class_count<C: Chart>(heap: Global, chart: &C, b: usize) -> Result<Option
     if b > WIDEST {
         return Ok(None);
     }
-    let mut strip = strip_for(heap, chart)?;
+    let mut strip = vec![in heap; chart.top(); 1 << WIDEST]?;
     Ok(number_classes(chart, b, strip.as_mut_slice()))
 }
 
@@ -52,8 +41,7 @@ pub fn counts_text<C: Chart>(heap: Global, chart: &C) -> Result<String, AllocErr
     ensures { IfOk result (λ s. string_bytes s ≡ counts_text (C.Chart.arity chart.now) (chart_function C.Chart chart.now)) }
 {
     let mut text = inputs_text(heap, chart.count())?;
-    for i in 0..WIDEST {
-        let width = i + 1;
+    for width in 1..=WIDEST {
         if let Some(count) = class_count(heap, chart, width)? {
             let line = width_text(heap, width, count)?;
             text.push_str(line.as_str())?;

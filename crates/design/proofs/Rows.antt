@@ -10,14 +10,6 @@ use Rattle.functions.proofs.Values.{value_under}
 use Rattle.families.specs.Tables.{tabled}
 use Rattle.mapping.proofs.Splitting.{tabled-same}
 
--- the values of f at the first i numbers, one after another
-module _ {X : Type 0} (f : ℕ → X) (i : ℕ) (xs : List X) (is : xs ≡ map f (range_with_len 0 i)) where
-  pub length_first : length xs ≡ i
-  length_first = ap length is ∙ length-map-range_with_len f 0 i
-
-  pub first_push : (x : X) → x ≡ f i → xs ++ (x ∷ []) ≡ map f (range_with_len 0 (i + 1))
-  first_push x q = ap (λ ys. ys ++ (x ∷ [])) is ∙ ap (λ y. map f (range_with_len 0 i) ++ (y ∷ [])) q ∙ sym (map-range_with_len_more f 0 i i (omega arith))
-
 -- the table of n entries
 table_of_entries : (es : List Bool) (n : ℕ) (t : ℕ → Bool) → length es ≡ n → n ≤ 32 → ((k : ℕ) → k < n → get_or es k false ≡ t k) → tabled (min (length es) 32) (λ e. get_or es e false) ≡ tabled n t
 table_of_entries es n t l h f =

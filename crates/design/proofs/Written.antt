@@ -5,8 +5,8 @@ use Rattle.std.proofs.lemmas.Bool.{true≢false}
 use Rattle.charts.specs.declared.chart.Chart as chart
 use Rattle.rules.specs.declared.rule.CodeRule as rule
 use Rattle.families.specs.declared.family.CellFamily as family
-use Rattle.families.specs.declared.packing.PackRefusal.{PackRefusal}
-use Rattle.families.specs.Packing.{Written as Packs}
+use Rattle.buffers.specs.declared.WriteRefusal.{WriteRefusal}
+use Rattle.buffers.specs.Written.{Written as Packs}
 use Rattle.frames.specs.declared.frame.Frame.{Frame}
 use Rattle.frames.specs.Outcome.{body}
 use Rattle.frames.specs.Text.{over, text}
@@ -36,7 +36,7 @@ pins_padded ps l k h = ap (λ xs. take k (ps ++ xs)) (drop-replicate (length ps)
     padded (x ∷ xs) a b (suc i) w v = ap (λ ys. x ∷ ys) (padded xs a b i (omega arith) (omega arith))
 
 -- bytes in front of an array that has room for them
-pub packed_front : {U : Type 0} (bs before after : List ℕ) (r : Result U PackRefusal) (n : ℕ) → length bs ≡ n → n ≤ length before → Packs bs before after r → (take n after ≡ bs)
+pub packed_front : {U : Type 0} (bs before after : List ℕ) (r : Result U WriteRefusal) (n : ℕ) → length bs ≡ n → n ≤ length before → Packs bs before after r → (take n after ≡ bs)
 packed_front bs before after (Ok u) n e h w = ap (take n) w.1 ∙ take_at bs (drop (length bs) before) n e
 packed_front bs before after (Err x) n e h w = let l = w.0 in absurd (omega arith)
 

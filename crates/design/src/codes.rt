@@ -11,6 +11,7 @@ ghost use Rattle.design.specs.Cells.{cells_of, number_table, code_cells};
 use super::cell::Cell;
 use super::netlist::Netlist;
 use super::tables::assignments;
+use bits::bit_of;
 use charts::{Chart, find, walk};
 use families::tables::table_of;
 use rows::Row;
@@ -23,7 +24,7 @@ fn class_at<C: Chart>(chart: &C, b: usize, places: &[C::Place], e: usize) -> usi
     requires places { map (C.Chart.column chart.now b) places.now ≡ classes_of (columns b (chart_function C.Chart chart.now)) }
     ensures { result ≡ class_of b (chart_function C.Chart chart.now) (bits b e) }
 {
-    find(chart, b, places, places.len(), walk(chart, b, e)).unwrap()
+    find(chart, b, places, walk(chart, b, e)).unwrap()
 }
 
 /// The class number of each bound assignment, by the places of the classes.
@@ -51,10 +52,9 @@ pub(crate) fn code_classes<R: CodeRule>(rule: &R, j: usize, classes: usize) -> [
 
 /// The bit of weight 2^`k` of the code of a class.
 fn code_bit<R: CodeRule>(rule: &R, j: usize, k: usize, class: usize) -> bool
-    requires { k < 4 }
     ensures { result ≡ (R.CodeRule.code rule.now j class / 2 ^ k % 2 == 1) }
 {
-    (rule.code(j, class) >> k) % 2 == 1
+    bit_of(rule.code(j, class) as u64, k)
 }
 
 /// The place, by its weight 2^k, of the code bit that a split's cell `t` of `j` carries.

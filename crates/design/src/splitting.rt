@@ -7,9 +7,9 @@ ghost use Rattle.design.specs.Designs.{split_answer, SplitCall};
 
 use super::codes::{add_code_cells, class_numbers, code_classes};
 use super::design::Design;
-use charts::{Chart, number_classes};
+use bits::power;
+use charts::{Chart, Recoding, number_classes};
 use families::family::CellFamily;
-use functions::power;
 use mapping::refusal::Refusal;
 use rows::Row;
 use rules::rule::CodeRule;
@@ -88,9 +88,15 @@ impl<C: Chart, R: CodeRule, F: CellFamily> Design<C, R, F> {
         let places = &strip[..classes];
         let numbers = class_numbers(&self.chart, b, places);
         let class_of = code_classes(&self.rule, j, classes);
-        if let Err(_) = self.chart.recode(b, j, places, &class_of) {
+        let recoding = Recoding {
+            bound: b,
+            codes: j,
+            places,
+            class_of: &class_of,
+        };
+        let Ok(()) = self.chart.recode(&recoding) else {
             return Err(Refusal::SplitDoesNotFit { classes });
-        }
+        };
         let pins = first_signals(&self.live, b);
         add_code_cells(&mut self.netlist, &self.rule, pins, j, numbers.as_slice());
         self.live = live_after(&self.live, m, b, j, 16 + made as u8);

@@ -6,9 +6,9 @@ ghost use Rattle.functions.specs.Words.{bits};
 ghost use Rattle.families.specs.Tables.{tabled};
 ghost use Rattle.charts.specs.Walks.{chart_function};
 
+use bits::power;
 use charts::{Chart, walk};
 use families::tables::table_of;
-use functions::power;
 use rows::Row;
 
 /// The value of a chart's function at the assignment with the number `a`.

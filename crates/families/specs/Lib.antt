@@ -1,6 +1,5 @@
 pub mod Tables
 pub mod Words
-pub mod Packing
 pub mod Laws
 pub mod Widening
 pub mod Single

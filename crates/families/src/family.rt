@@ -2,9 +2,9 @@
 
 ghost use Rattle.std.specs.Prelude.{◌≡◌, ℕ, Bool, List};
 ghost use Rattle.families.specs.Laws.{Laws, meant, ReadBack};
-ghost use Rattle.families.specs.Packing.{Written};
+ghost use Rattle.buffers.specs.Written.{Written};
 
-use super::packing::PackRefusal;
+use buffers::WriteRefusal;
 
 /// A family of cells, which are alike but for their configuration bytes.
 pub trait CellFamily {
@@ -39,7 +39,7 @@ pub trait CellFamily {
         ensures { result ≡ size self.now };
 
     /// Writes the configuration for `table` over the front of `out`. A buffer that is too short is refused, and stays as it was.
-    fn pack(&self, table: u32, out: &mut [u8]) -> Result<(), PackRefusal>
+    fn pack(&self, table: u32, out: &mut [u8]) -> Result<(), WriteRefusal>
         ensures { Written (packed self.now table) out.old out.new result };
 
     /// The bit that `bytes` mean at the assignment `e`: false for a wrong byte count, or where there is no such assignment.

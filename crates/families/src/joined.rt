@@ -5,9 +5,9 @@ ghost use Rattle.families.specs.Joined.{joined_packed, joined_reads};
 ghost use Rattle.families.specs.JoinedLaws.{joined_laws};
 
 use super::family::CellFamily;
-use super::packing::{PackRefusal, put};
 use super::tables::entry_of;
 use super::words::{word_bytes, word_of};
+use buffers::{WriteRefusal, put};
 
 /// Cells of five pins and the words F and G, joined by the byte H.
 #[derive(Clone, Copy)]
@@ -71,7 +71,7 @@ impl CellFamily for Joined {
         BYTES
     }
 
-    fn pack(&self, table: u32, out: &mut [u8]) -> Result<(), PackRefusal> {
+    fn pack(&self, table: u32, out: &mut [u8]) -> Result<(), WriteRefusal> {
         put(&joined_bytes(table), out)
     }
 

@@ -3,7 +3,6 @@
 
 pub mod family;
 pub mod joined;
-pub mod packing;
 pub mod single;
 pub mod tables;
 pub mod words;

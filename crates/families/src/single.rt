@@ -4,9 +4,9 @@ ghost use Rattle.families.specs.Single.{single_packed, single_reads};
 ghost use Rattle.families.specs.SingleLaws.{single_laws};
 
 use super::family::CellFamily;
-use super::packing::{PackRefusal, put};
 use super::tables::entry_of;
 use super::words::{word_bytes, word_of};
+use buffers::{WriteRefusal, put};
 
 /// Cells of four pins and one word, whose bit of weight 2^E is the entry E.
 #[derive(Clone, Copy)]
@@ -40,7 +40,7 @@ impl CellFamily for Single {
         BYTES
     }
 
-    fn pack(&self, table: u32, out: &mut [u8]) -> Result<(), PackRefusal> {
+    fn pack(&self, table: u32, out: &mut [u8]) -> Result<(), WriteRefusal> {
         put(&word_bytes(table), out)
     }
 

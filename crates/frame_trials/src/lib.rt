@@ -3,11 +3,12 @@
 
 #[cfg(test)]
 mod tests {
+    use buffers::WriteRefusal;
     use frames::faults::{FaultNumbers, PageFault};
     use frames::frame::{Form, Frame};
     use frames::kinds::Kind;
     use frames::reader::FrameReader;
-    use frames::writer::{WriteRefusal, write_frames};
+    use frames::writer::write_frames;
     use reports::check::check_text;
     use reports::words::fault_text;
     use std::test::Fail;

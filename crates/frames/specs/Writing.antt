@@ -1,14 +1,10 @@
 -- What writing frames does.
 use Rattle.std.specs.Prelude.{◌≡◌, ℕ, ◌<◌, ◌≤◌, List, map, length, Some, None, Ok, Err, Option, Result}
 use Rattle.frames.specs.declared.frame.Frame.{Frame}
-use Rattle.frames.specs.declared.writer.WriteRefusal.{WriteRefusal}
-use Rattle.frames.specs.declared.writer.WriteRefusal.TheVariants.{TooShort}
+use Rattle.buffers.specs.declared.WriteRefusal.{WriteRefusal}
+use Rattle.buffers.specs.Refusals.{refusal_number}
 use Rattle.frames.specs.Text.{text, over, sealed}
 use Rattle.frames.specs.Outcome.{body}
-
--- the number of a refusal: 22, the buffer is too short
-abbrev pub refusal_number : WriteRefusal → ℕ
-refusal_number TooShort = 22
 
 -- the lines of frames
 abbrev pub text_of : List Frame → List ℕ

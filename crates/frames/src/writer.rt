@@ -4,28 +4,11 @@ ghost use Rattle.std.specs.Prelude.{◌≡◌, ◌+◌, ◌*◌, ◌/◌, ◌%�
 ghost use Rattle.frames.specs.Laws.{Reads, ReadingTells, LineReads, WrittenReads, ReadIsWritten};
 ghost use Rattle.frames.specs.Outcome.{body};
 ghost use Rattle.frames.specs.Text.{hex_digit, line_text, placed};
-ghost use Rattle.frames.specs.Writing.{refusal_number, text_of, Wrote};
+ghost use Rattle.frames.specs.Writing.{text_of, Wrote};
 
 use crate::frame::Frame;
 use crate::hex::byte_digits;
-
-/// Why nothing was written.
-#[derive(Clone, Copy, PartialEq, Eq, Debug)]
-pub enum WriteRefusal {
-    /// The buffer is too short.
-    TooShort,
-}
-
-impl WriteRefusal {
-    /// The refusal's number: 22.
-    pub fn number(&self) -> u8
-        ensures { result ≡ refusal_number self.now }
-    {
-        match self {
-            WriteRefusal::TooShort => 22,
-        }
-    }
-}
+use buffers::WriteRefusal;
 
 /// Writes a byte's two digits at `at`.
 fn put_byte(b: u8, out: &mut [u8], at: usize)

@@ -2,7 +2,6 @@
 //! The definitions are in `specs/`; the contracts here are their laws.
 #![tactic(auto)]
 
-ghost use Rattle.std.specs.Prelude.{◌≡◌, ◌^◌, ◌<◌, ◌≤◌};
 ghost use Rattle.functions.specs.Decompositions.{DecompositionTheorem};
 ghost use Rattle.functions.specs.Laws.{WordLaws, ValueLaws, ArityLaws, NegationLaws, ColumnLaws, ClassLaws, ColumnClassLaws};
 
@@ -29,11 +28,3 @@ pub fn classes_lawful()
 pub fn decomposition_theorem()
     ensures { DecompositionTheorem }
 {}
-
-/// 2 to the power `k`, or 0 where `k` is above 16.
-pub fn power(k: usize) -> usize
-    ensures within { k ≤ 16 → result ≡ 2 ^ k }
-    ensures past { 16 < k → result ≡ 0 }
-{
-    if k > 16 { 0 } else { 1 << k }
-}

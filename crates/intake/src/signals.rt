@@ -4,6 +4,7 @@ ghost use Rattle.std.specs.Prelude.{◌≡◌, ◌<◌, ◌≤◌, false, [], �
 ghost use Rattle.families.specs.Tables.{assignment};
 ghost use Rattle.intake.specs.Networks.{input_bits, last, pin_value};
 
+use bits::bit_of;
 use rows::Row;
 use std::marker::Model;
 
@@ -29,8 +30,8 @@ impl Signals {
         ensures { result ≡ input_bits inputs }
     {
         let mut values = Row::new(false);
-        for i in 0..16u32 {
-            values.push((inputs >> i) % 2 == 1);
+        for i in 0..16 {
+            values.push(bit_of(u64::from(inputs), i));
         }
         Signals { values }
     }

@@ -5,8 +5,8 @@ ghost use Rattle.mapping.specs.Calls.{refusal_number, refusal_classes};
 ghost use Rattle.mapping.specs.Refusals.{of_swap};
 ghost use Rattle.mapping.specs.declared.refusal.Refusal.TheVariants.{TooShort};
 
+use buffers::WriteRefusal;
 use charts::ChartRefusal;
-use frames::writer::WriteRefusal;
 
 /// Why a call on a design was refused.
 #[derive(Clone, Copy, PartialEq, Eq, Debug)]

@@ -10,7 +10,7 @@ use super::node::Node;
 use super::node_chart::NodeChart;
 use super::reduce::reduce;
 use super::store::Full;
-use functions::power;
+use bits::power;
 
 /// The node once `j` variables stand in the place of the first `b`: a blank if its own is one of these.
 fn moved(old: Node, b: u8, j: u8) -> Node

@@ -5,8 +5,8 @@
 mod tests {
     use bitpages::loading::load_table;
     use bitpages::writing::{TableRefusal, write_table};
+    use buffers::WriteRefusal;
     use frames::faults::FaultNumbers;
-    use frames::writer::WriteRefusal;
     use std::test::Fail;
 
     // The fault of a text in numbers, or none where it is a page.

@@ -1,7 +1,7 @@
-use Rattle.std.proofs.Common.{◌≡◌, min, ◌++◌, string_bytes}
+use Rattle.std.proofs.Common.{◌≡◌, ◌-◌, min, ◌++◌, string_bytes}
 use Rattle.charts.specs.Walks.{chart_function}
 use Rattle.counts.specs.Counts.{inputs_text, widths_text}
 use Rattle.counts.proofs.counts_text.Given as goal
 
-abbrev pub invariant-loop-i : goal.invariant-loop-i
-invariant-loop-i g l = string_bytes l.text ≡ inputs_text (g.C.Chart.arity l.chart) ++ widths_text (min l.i (g.C.Chart.arity l.chart)) (chart_function g.C.Chart l.chart)
+abbrev pub invariant-loop-width : goal.invariant-loop-width
+invariant-loop-width g l = string_bytes l.text ≡ inputs_text (g.C.Chart.arity l.chart) ++ widths_text (min (l.width - 1) (g.C.Chart.arity l.chart)) (chart_function g.C.Chart l.chart)

@@ -1,6 +1,6 @@
 use Rattle.std.proofs.Common.{◌≡◌, ℕ, ◌-◌, ◌^◌, ◌≤◌, Bool, true, false, List, length, get_or, take, is_some, Some, None, Option, refl, ◌∙◌, arith}
 use Rattle.std.proofs.lemmas.List.{length-take-le, get_or-take}
-use Rattle.charts.specs.declared.bits.BitChart.{BitChart}
+use Rattle.charts.specs.declared.BitChart.{BitChart}
 use Rattle.charts.specs.BitCharts.{bit_function, Loaded}
 use Rattle.functions.specs.Functions.{tree}
 use Rattle.functions.proofs.Rows.{tree-same}

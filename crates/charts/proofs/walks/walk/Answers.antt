@@ -1,4 +1,4 @@
-use Rattle.std.proofs.Common.{◌≡◌, suc, ◌+◌, ◌-◌, ◌≤◌, sym, ◌∙◌, inl, inr, arith}
+use Rattle.std.proofs.Common.{◌≡◌, ◌-◌, ◌≤◌, sym, ◌∙◌, inl, inr, arith}
 use Rattle.std.proofs.lemmas.Bool.{cases_lt}
 use Rattle.functions.specs.Words.{bits}
 use Rattle.charts.specs.Walks.{reached}
@@ -7,11 +7,6 @@ use Rattle.charts.proofs.walks.walk.Goals as goal
 
 pub loop-depth-init : goal.loop-depth-init
 loop-depth-init g c = let none : c.args.b - 0 ≡ c.args.b = omega arith in rw (none, c.top-place.ensures)
-
-pub loop-depth-preserved : goal.loop-depth-preserved
-loop-depth-preserved g c =
-    let more : c.args.b - c.loop-depth.depth ≡ suc (c.args.b - (c.loop-depth.depth + 1)) = omega arith in
-    rw (c.step-place.ensures, c.digit.ensures) (rw more at c.loop-depth.invariant)
 
 pub returns : goal.returns
 returns g c =

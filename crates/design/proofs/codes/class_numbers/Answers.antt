@@ -2,7 +2,7 @@ use Rattle.std.proofs.Common.{lit<, ◌∙◌, arith}
 use Rattle.functions.specs.Classes.{class_of}
 use Rattle.functions.specs.Words.{bits}
 use Rattle.charts.specs.Walks.{chart_function}
-use Rattle.design.proofs.Rows.{length_first, first_push}
+use Rattle.rows.proofs.Firsts.{length_first, first_push}
 use Rattle.design.proofs.codes.class_numbers.Goals as goal
 
 pub push-requires : goal.push-requires

@@ -3,7 +3,8 @@ use Rattle.functions.specs.Functions.{value}
 use Rattle.functions.specs.Words.{bits}
 use Rattle.families.specs.Tables.{tabled}
 use Rattle.charts.specs.Walks.{chart_function}
-use Rattle.design.proofs.Rows.{length_first, first_push, table_of_first}
+use Rattle.rows.proofs.Firsts.{length_first, first_push}
+use Rattle.design.proofs.Rows.{table_of_first}
 use Rattle.design.proofs.tables.function_table.Goals as goal
 
 pub push-requires : goal.push-requires

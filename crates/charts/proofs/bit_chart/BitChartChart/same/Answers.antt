@@ -1,18 +1,14 @@
-use Rattle.std.proofs.Common.{◌≡◌, ℕ, Bool, true, false, arith}
-use Rattle.charts.proofs.Stretches.{entries-same, entries_differ}
+use Rattle.std.proofs.Common.{◌≡◌, ◌-◌, rules, refl, arith}
+use Rattle.std.proofs.lemmas.Iterator.{cases_from_all, YieldsList-from_range}
+use Rattle.charts.specs.Stretches.{entry_of}
+use Rattle.charts.proofs.Stretches.{entries-search}
 use Rattle.charts.proofs.bit_chart.BitChartChart.same.Goals as goal
-
-pub returns-then-not-agree : goal.returns-then-not-agree
-returns-then-not-agree c =
-    let s = c.args.self.now in
-    let small = s.small in
-    entries_differ s.count s.table c.args.depth c.left-k.result c.left-k.ensures c.args.a c.args.b c.loop-i.i
-    (omega (arith, c.power-i-end.ensures.within (omega arith)))
-    (λ e. let z : ◌≡◌ {A = Bool} false true = c.if-not-agree.ensures.1 e in let y : ◌≡◌ {A = ℕ} 0 1 = cc in omega arith)
 
 pub returns : goal.returns
 returns c =
     let s = c.args.self.now in
-    let small = s.small in
-    entries-same s.count s.table c.args.depth c.left-k.result c.left-k.ensures c.args.a c.args.b
-    (λ i l. c.loop-i.invariant i (omega (arith, c.power-i-end.ensures.within (omega arith))))
+    let k = s.count - c.args.depth in
+    let n = c.size.result in
+    let e = entry_of s.count s.table k in
+    entries-search s.count s.table c.args.depth k refl c.args.a c.args.b c.all.result n c.size.ensures.value
+    (cases_from_all _ _ _ (λ i. e c.args.a i ≡ e c.args.b i) (λ i. e c.args.a i ≡ e c.args.b i → ⊥) c.all.ensures.ran (YieldsList-from_range 0 n n refl (omega arith)) (λ x q h. search rules) (λ x q h. search rules))

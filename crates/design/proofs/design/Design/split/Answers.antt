@@ -25,8 +25,8 @@ returns-then-made-j-gt-MOST g c =
     let few : c.in-Some.classes ≤ 2 ^ c.args.j = omega (arith, c.power.ensures.within (omega (arith, g.F.CellFamily.laws.few_pins c.args.self.now.family, ranged.pinned, ranged.fewer))) in
     split_full g.C.Chart g.R.CodeRule g.F.CellFamily d c.args.b c.args.j c.in-Some.classes c.args.strip.now c.number_classes.new.strip long c.if-self.false ranged c.in-Some.ensures few (omega (arith, c.count-made.ensures.value, c.if-made-j-gt-MOST.true))
 
-pub slice_bounds-recode-end : goal.slice_bounds-recode-end
-slice_bounds-recode-end g c =
+pub slice_bounds-places-end : goal.slice_bounds-places-end
+slice_bounds-places-end g c =
     let d = c.args.self.now in
     let long : length c.args.self.now.live ≡ 16 = omega arith in
     let ranged : Ranged (g.F.CellFamily.pins c.args.self.now.family) (g.C.Chart.arity c.args.self.now.chart.below) c.args.b c.args.j =
@@ -34,8 +34,8 @@ slice_bounds-recode-end g c =
     let k = classes-inside g.C.Chart g.R.CodeRule g.F.CellFamily d c.args.b c.args.j c.in-Some.classes c.args.strip.now c.number_classes.new.strip long c.if-self.false ranged c.in-Some.ensures in
     omega arith
 
-pub returns-in-Err : goal.returns-in-Err
-returns-in-Err g c =
+pub returns-in_default-recode : goal.returns-in_default-recode
+returns-in_default-recode g c =
     let d = c.args.self.now in
     let long : length c.args.self.now.live ≡ 16 = omega arith in
     let ranged : Ranged (g.F.CellFamily.pins c.args.self.now.family) (g.C.Chart.arity c.args.self.now.chart.below) c.args.b c.args.j =
@@ -43,7 +43,7 @@ returns-in-Err g c =
     let few : c.in-Some.classes ≤ 2 ^ c.args.j = omega (arith, c.power.ensures.within (omega (arith, g.F.CellFamily.laws.few_pins c.args.self.now.family, ranged.pinned, ranged.fewer))) in
     let codes = c.code_classes-class_of.ensures in
     let spare : length (cells_of c.args.self.now.netlist) + c.args.j ≤ 47 = omega (arith, c.count-made.ensures.value, c.if-made-j-gt-MOST.false) in
-    let why = c.in-Err.ensures in
+    let why = c.in_default-recode.ensures in
     split_unfit g.C.Chart g.R.CodeRule g.F.CellFamily d c.args.b c.args.j c.in-Some.classes c.args.strip.now c.number_classes.new.strip long c.if-self.false ranged c.in-Some.ensures few
     spare c.code_classes-class_of.result codes.long codes.classes (take c.in-Some.classes c.number_classes.new.strip) refl
     c.recode.new.self _ why.0 why.1
@@ -58,7 +58,7 @@ returns g c =
     let few : c.in-Some.classes ≤ 2 ^ c.args.j = omega (arith, c.power.ensures.within (omega (arith, g.F.CellFamily.laws.few_pins c.args.self.now.family, ranged.pinned, ranged.fewer))) in
     let codes = c.code_classes-class_of.ensures in
     let spare : length (cells_of c.args.self.now.netlist) + c.args.j ≤ 47 = omega (arith, c.count-made.ensures.value, c.if-made-j-gt-MOST.false) in
-    let done = c.in_default-recode.ensures in
+    let done = c.in-Ok.ensures in
     let f = left_of g.C.Chart g.R.CodeRule g.F.CellFamily d in
     let ns = c.as_slice.result.now in
     let numbers = c.as_slice.ensures.value ∙ c.class_numbers-numbers.ensures in

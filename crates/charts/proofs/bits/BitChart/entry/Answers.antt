@@ -1,9 +1,0 @@
-use Rattle.std.proofs.Common.{sym, arith}
-use Rattle.charts.proofs.Stretches.{table-size, there-length, there-inside}
-use Rattle.charts.proofs.bits.BitChart.entry.Goals as goal
-
-pub bounds-self-place : goal.bounds-self-place
-bounds-self-place c =
-    let s = c.args.self.now in
-    let here = sym c.if-has.ensures in
-    omega (arith, there-length s.count c.args.k c.args.place here, there-inside s.count c.args.k c.args.place here, table-size s.count s.small)

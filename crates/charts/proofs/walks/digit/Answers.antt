@@ -1,9 +1,0 @@
-use Rattle.std.proofs.Common.{◌^◌, ◌<◌, arith, pow_mono}
-use native.Mathlib.Nat.{div-eq_of_lt}
-use Rattle.std.proofs.lemmas.Bool.{le-ltb}
-use Rattle.charts.proofs.walks.digit.Goals as goal
-
-pub returns-else-k-lt64 : goal.returns-else-k-lt64
-returns-else-k-lt64 c =
-    let low : c.args.a < 2 ^ c.args.k = omega (arith, pow_mono c.if-k-lt64.false) in
-    rw (le-ltb c.args.k 64 c.if-k-lt64.false, div-eq_of_lt low)
