@@ -7,10 +7,10 @@ use Rattle.charts.proofs.ClassLists.{take_min}
 use Rattle.rules.specs.declared.rule.CodeRule as rule
 use Rattle.families.specs.declared.family.CellFamily as family
 use Rattle.mapping.specs.declared.call.Call.{Call}
-use Rattle.mapping.specs.declared.call.Call.TheVariants.{Split, Write}
+use Rattle.mapping.specs.declared.call.Call.TheVariants.{Write}
 use Rattle.mapping.specs.declared.answer.Answer.{Answer}
 use Rattle.design.specs.declared.design.Design.{Design}
-use Rattle.design.specs.Designs.{SplitCall, WriteCall}
+use Rattle.design.specs.Designs.{WriteCall}
 use Rattle.design.specs.Runs.{setting, Does}
 
 module _ {X : Type 0} (xs ys zs : List X) (room n : ℕ) (e : n ≡ min room (length xs)) (long : length ys ≡ n) (is : zs ≡ ys ++ drop n xs) where
@@ -37,16 +37,6 @@ module _ {X : Type 0} (xs ys zs : List X) (room n : ℕ) (e : n ≡ min room (le
       (cases_lt (length xs) room)
 
 module _ {C P R F : Type 0} (ch : chart.Ghosts C P) (ru : rule.Ghosts R) (fa : family.Ghosts F) (d e : Design C R F P) (strip : List P) (out : List ℕ) (c : Call) (a : Answer) (r : Answer) (room n : ℕ) (is : r ≡ a) where
-  -- a split with the front of the strip
-  pub split-lent : (b j : ℕ) (ys zs : List P) → c ≡ Split b j room → n ≡ min room (length strip) → length ys ≡ n → zs ≡ ys ++ drop n strip → SplitCall ch ru fa d b j (take n strip) ys a e →
-      Does ch ru fa (setting ch ru fa d strip out) c r (setting ch ru fa e zs out)
-  split-lent b j ys zs call least long back done =
-      let T : Call → Answer → Type 0 = λ k w. Does ch ru fa (setting ch ru fa d strip out) k w (setting ch ru fa e zs out) in
-      let S : List P → List P → Type 0 = λ before after. SplitCall ch ru fa d b j before after a e in
-      let first = subst (λ ps. S ps ys) (lent-first strip ys zs room n least long back) done in
-      let both = subst (S (take room strip)) (sym (lent-last strip ys zs room n least long back)) first in
-      subst (λ k. T k r) (sym call) (subst (T (Split b j room)) (sym is) (both, lent-rest strip ys zs room n least long back, refl))
-
   -- a write with the front of the buffer
   pub write_lent : (ys zs : List ℕ) → c ≡ Write room → n ≡ min room (length out) → length ys ≡ n → zs ≡ ys ++ drop n out → WriteCall ch ru fa d (take n out) ys a →
       Does ch ru fa (setting ch ru fa d strip out) c r (setting ch ru fa d strip zs)

@@ -1,4 +1,3 @@
-pub mod Growth
 pub mod Rows
 pub mod Found
 pub mod Walks

@@ -26,17 +26,13 @@ use Rattle.mapping.specs.States.{state, coded, code_table, split_cells}
 use Rattle.mapping.proofs.Splitting.{some_class, holder-below, coded_from, code_table_from, code_table-negated, split_cells_from}
 use Rattle.design.specs.declared.design.Design.{Design}
 use Rattle.design.specs.declared.netlist.Netlist.{Netlist}
-use Rattle.design.specs.Cells.{seen_cell, cells_of, number_table, code_cells}
+use Rattle.design.specs.Cells.{cells_of, number_table, code_cells}
 use Rattle.design.specs.Designs.{inverted, left_of, seen, Step, SplitCall}
 use Rattle.design.proofs.Swaps.{fits_below}
 
 -- the range of a split, by the numbers that were asked
 pub ranged_as : (K L m n b j : ℕ) → K ≡ L → m ≡ n → Ranged K m b j → Ranged L n b j
 ranged_as K L m n b j e h r = record { some = r.some; pinned = let p = r.pinned in omega arith; bound = let p = r.bound in omega arith; fewer = r.fewer }
-
--- as many cells are seen as were made
-pub count-cells : (w : Netlist) → length (cells_of w) ≡ w.count
-count-cells w = let s : length w.cells ≡ 48 = w.sized in let r = w.room in length-map (take w.count w.cells) seen_cell ∙ length-take-le w.count w.cells (omega arith)
 
 -- the strip is too short
 module _ {C P R F : Type 0} (ch : chart.Ghosts C P) (ru : rule.Ghosts R) (fa : family.Ghosts F) (d : Design C R F P) (b j : ℕ) (before after : List P)
@@ -111,10 +107,10 @@ module _ {C P R F : Type 0} (ch : chart.Ghosts C P) (ru : rule.Ghosts R) (fa : f
     room-there h = let r = numbers.0.room in omega arith
 
     -- too many cells
-    pub split_full : 47 < d.netlist.count + j → SplitCall ch ru fa d b j before after (answer.Refused (TooManyCells k)) d
+    pub split_full : 47 < length (cells_of d.netlist) + j → SplitCall ch ru fa d b j before after (answer.Refused (TooManyCells k)) d
     split_full h = split-call (answer.Refused (TooManyCells k)) d (record {
       answers = record {
-        says = inr (not_closed, inr (λ out. out ranged-seen, inr (room-there, inr (few-classes, inl (let n = count-cells d.netlist in omega arith, ap (λ i. answer.Refused (TooManyCells i)) counted)))));
+        says = inr (not_closed, inr (λ out. out ranged-seen, inr (room-there, inr (few-classes, inl (omega arith, ap (λ i. answer.Refused (TooManyCells i)) counted)))));
         leaves = refl;
       };
       refused = λ _. refl;
@@ -124,7 +120,7 @@ module _ {C P R F : Type 0} (ch : chart.Ghosts C P) (ru : rule.Ghosts R) (fa : f
       fitting = λ g. (λ x. x, λ x. x);
     })
 
-    module _ (spare : d.netlist.count + j ≤ 47) (class-of-codes : List ℕ) (sixteen : length class-of-codes ≡ 16) (held : (q : ℕ) → q < 16 → get_or class-of-codes q 0 ≡ holder (code j) q k)
+    module _ (spare : length (cells_of d.netlist) + j ≤ 47) (class-of-codes : List ℕ) (sixteen : length class-of-codes ≡ 16) (held : (q : ℕ) → q < 16 → get_or class-of-codes q 0 ≡ holder (code j) q k)
         (places : List P) (first_places : places ≡ take k after) where
       many_codes : 2 ^ j ≤ 16
       many_codes = pow_mono {i = j} {j = 4} few_codes
@@ -151,7 +147,7 @@ module _ {C P R F : Type 0} (ch : chart.Ghosts C P) (ru : rule.Ghosts R) (fa : f
       recoded_is = coded_from code b j f (map ((inverted ch).column d.chart b) places) (λ q. get_or class-of-codes q 0) means held_all
 
       cells-spare : 47 < length (seen ch ru fa d).cells + j → ⊥
-      cells-spare h = let n = count-cells d.netlist in omega arith
+      cells-spare h = omega arith
 
       -- no room in the chart
       pub split_unfit : (x : Inverting C P) (n : ℕ) → x ≡ d.chart → Refused (Recodable m b j (length places) class-of-codes) ((inverted ch).fits d.chart (recoded j (map ((inverted ch).column d.chart b) places) (λ q. get_or class-of-codes q 0))) n →
@@ -173,28 +169,27 @@ module _ {C P R F : Type 0} (ch : chart.Ghosts C P) (ru : rule.Ghosts R) (fa : f
 
       module _ (x : Inverting C P) (became : Became (inverted ch).arity (whole (inverted ch).column (inverted ch).root) (inverted ch).fits (m - b + j) (recoded j (map ((inverted ch).column d.chart b) places) (λ q. get_or class-of-codes q 0)) d.chart x)
           (classed : List ℕ) (entries : length classed ≡ 2 ^ b) (numbered : (e : ℕ) → e < 2 ^ b → get_or classed e 0 ≡ class_of b f (bits b e))
-          (pins : List ℕ) (first : take b pins ≡ take b d.live) (w : Netlist) (made : cells_of w ≡ cells_of d.netlist ++ code_cells code j (take b pins) classed j) (open-still : w.closed ≡ d.netlist.closed)
-          (live : List ℕ) (relived : take (m - b + j) live ≡ range_with_len (16 + d.netlist.count) j ++ drop b (take m d.live)) where
-        pins_are : take b pins ≡ take b (take m d.live)
+          (pins : List ℕ) (first : pins ≡ take b d.live) (w : Netlist) (made : cells_of w ≡ cells_of d.netlist ++ code_cells code j pins classed j) (open-still : w.closed ≡ d.netlist.closed)
+          (live : List ℕ) (n : ℕ) (relived : take (m - b + j) live ≡ range_with_len (16 + n) j ++ drop b (take m d.live)) (were : n ≡ length (cells_of d.netlist)) where
+        pins_are : pins ≡ take b (take m d.live)
         pins_are = first ∙ sym (take-take b m d.live ranged.bound)
 
         table_is : (t : ℕ) → number_table code j classed t ≡ code_table code b j f t
         table_is t = ap (λ n. tabled n (λ e. eqb (code j (get_or classed e 0) / 2 ^ (j - 1 - t) % 2) 1)) entries ∙ code_table_from code b j f t (λ e. get_or classed e 0) numbered
 
-        cells_are : code_cells code j (take b pins) classed j ≡ split_cells code b j (seen ch ru fa d)
+        cells_are : code_cells code j pins classed j ≡ split_cells code b j (seen ch ru fa d)
         cells_are =
             ap (λ ps. code_cells code j ps classed j) pins_are
             ∙ split_cells_from code b j (chart_function ch d.chart.below) (seen ch ru fa d) (number_table code j classed) refl (λ t l. table_is t ∙ code_table-negated code b j (chart_function ch d.chart.below) t)
 
         -- done
-        pub split_done : SplitCall ch ru fa d b j before after (answer.Divided k (d.netlist.count + j)) (record { chart = x; rule = d.rule; family = d.family; inputs = d.inputs; live = live; netlist = w })
+        pub split_done : SplitCall ch ru fa d b j before after (answer.Divided k (n + j)) (record { chart = x; rule = d.rule; family = d.family; inputs = d.inputs; live = live; netlist = w })
         split_done =
-            let n = count-cells d.netlist in
-            split-call (answer.Divided k (d.netlist.count + j)) (record { chart = x; rule = d.rule; family = d.family; inputs = d.inputs; live = live; netlist = w }) (record {
+            split-call (answer.Divided k (n + j)) (record { chart = x; rule = d.rule; family = d.family; inputs = d.inputs; live = live; netlist = w }) (record {
               answers = record {
-                says = inr (not_closed, inr (λ out. out ranged-seen, inr (room-there, inr (few-classes, inr (cells-spare, inr (λ unfit. unfit (subst ((inverted ch).fits d.chart) recoded_is became.fitted), ap (λ i. answer.Divided i (d.netlist.count + j)) counted ∙ ap (λ i. answer.Divided (length (classes (columns b f))) (i + j)) (sym n)))))));
+                says = inr (not_closed, inr (λ out. out ranged-seen, inr (room-there, inr (few-classes, inr (cells-spare, inr (λ unfit. unfit (subst ((inverted ch).fits d.chart) recoded_is became.fitted), ap (λ i. answer.Divided i (n + j)) counted ∙ ap (λ i. answer.Divided (length (classes (columns b f))) (i + j)) were))))));
                 leaves =
-                    ap (λ l. state l (cells_of w) (whole (inverted ch).column (inverted ch).root x) w.closed) (ap (λ i. take i live) became.counted ∙ relived ∙ ap (λ i. range_with_len (16 + i) j ++ drop b (take m d.live)) (sym n))
+                    ap (λ l. state l (cells_of w) (whole (inverted ch).column (inverted ch).root x) w.closed) (ap (λ i. take i live) became.counted ∙ relived ∙ ap (λ i. range_with_len (16 + i) j ++ drop b (take m d.live)) were)
                     ∙ ap (λ cs. state (range_with_len (16 + length (cells_of d.netlist)) j ++ drop b (take m d.live)) cs (whole (inverted ch).column (inverted ch).root x) w.closed) (made ∙ ap (λ cs. cells_of d.netlist ++ cs) cells_are)
                     ∙ ap (λ g. state (range_with_len (16 + length (cells_of d.netlist)) j ++ drop b (take m d.live)) (cells_of d.netlist ++ split_cells code b j (seen ch ru fa d)) g w.closed) (became.meaning ∙ recoded_is)
                     ∙ ap (state (range_with_len (16 + length (cells_of d.netlist)) j ++ drop b (take m d.live)) (cells_of d.netlist ++ split_cells code b j (seen ch ru fa d)) (coded code b j f)) (open-still ∙ still);

@@ -1,9 +1,8 @@
 -- The bytes of a page.
-use Rattle.std.proofs.Common.{◌≡◌, ℕ, zero, suc, ◌+◌, ◌-◌, ◌<◌, ◌≤◌, min, Bool, true, false, cond, List, [], ◌∷◌, ◌++◌, map, length, get_or, take, drop, set, replicate, Ok, Err, Result, sym, refl, ap, ◌∙◌, inl, inr, arith}
-use Rattle.std.proofs.lemmas.List.{append_assoc, length-take-le, take_all, take_at, take_more, take_more_set, take-replicate, map_push, map_more}
+use Rattle.std.proofs.Common.{◌≡◌, ℕ, zero, suc, ◌+◌, ◌-◌, ◌<◌, ◌≤◌, Bool, true, false, cond, List, [], ◌∷◌, ◌++◌, map, length, get_or, take, drop, replicate, Ok, Err, Result, sym, refl, ap, ◌∙◌, inl, inr, arith}
+use Rattle.std.proofs.lemmas.List.{append_assoc, length-append, length-map, length-take-le, take_at, take-replicate, map_push, map_more, drop-replicate}
 use Rattle.std.proofs.lemmas.Bool.{true≢false}
 use Rattle.charts.specs.declared.chart.Chart as chart
-use Rattle.charts.proofs.ClassLists.{take_min}
 use Rattle.rules.specs.declared.rule.CodeRule as rule
 use Rattle.families.specs.declared.family.CellFamily as family
 use Rattle.buffers.specs.declared.WriteRefusal.{WriteRefusal}
@@ -26,52 +25,30 @@ use Rattle.design.specs.declared.cell.Cell.{Cell}
 use Rattle.design.specs.declared.design.Design.{Design}
 use Rattle.design.specs.Cells.{seen_cell}
 use Rattle.design.specs.Designs.{seen, network_seen, page_of, Step, WriteCall}
-use Rattle.design.proofs.Growth.{row_more}
 
--- one pin more
-pub pins-more : (ps bs : List ℕ) (i : ℕ) → length ps ≡ 5 → i < 5 → bs ≡ take i ps ++ replicate (5 - i) 255 → set bs i (get_or ps i 0) ≡ take (i + 1) ps ++ replicate (5 - (i + 1)) 255
-pins-more ps bs i l h e =
-    ap (λ xs. set xs i (get_or ps i 0)) e
-    ∙ row_more (take i ps) (5 - (i + 1)) (5 - i) i (get_or ps i 0) 255 (length-take-le i ps (omega arith)) (omega arith)
-    ∙ ap (λ xs. xs ++ replicate (5 - (i + 1)) 255) (sym (take_more ps i 0 (omega arith)))
-
--- the pins that are used, and marks up to k pins
-pub pins-padded : (ps bs : List ℕ) (used n : ℕ) → length ps ≡ 5 → n ≡ min used 5 → bs ≡ take n ps ++ replicate (5 - n) 255 → (k : ℕ) → k ≤ 5 → take k bs ≡ take k (take used ps ++ replicate k 255)
-pins-padded ps bs used n l e is k h =
-    let m : n ≡ min used (length ps) = omega arith in
-    ap (take k) (is ∙ ap (λ xs. xs ++ replicate (5 - n) 255) (ap (λ i. take i ps) m ∙ take_min used ps))
-    ∙ padded (take used ps) (5 - n) k k (omega (arith, ap length (ap (λ i. take i ps) m ∙ take_min used ps), length-take-le n ps (omega arith))) (omega arith)
+-- the pins that are used, over marks, and marks up to k pins
+pub pins_padded : (ps : List ℕ) → length ps ≤ 5 → (k : ℕ) → k ≤ 5 → take k (ps ++ drop (length ps) (replicate 5 255)) ≡ take k (ps ++ replicate k 255)
+pins_padded ps l k h = ap (λ xs. take k (ps ++ xs)) (drop-replicate (length ps) 5 255) ∙ padded ps (5 - length ps) k k (omega arith) (omega arith)
   where
     padded : (xs : List ℕ) (a b i : ℕ) → i ≤ length xs + a → i ≤ length xs + b → take i (xs ++ replicate a 255) ≡ take i (xs ++ replicate b 255)
     padded [] a b i w v = take-replicate i a 255 (omega arith) ∙ sym (take-replicate i b 255 (omega arith))
     padded (x ∷ xs) a b zero w v = refl
     padded (x ∷ xs) a b (suc i) w v = ap (λ ys. x ∷ ys) (padded xs a b i (omega arith) (omega arith))
 
--- one byte more of a frame's content, after its kind
-pub content_more : (k x i : ℕ) (fs bs : List ℕ) → i < length fs → length fs ≤ 22 → bs ≡ (k ∷ take i fs) ++ replicate (22 - i) k → x ≡ get_or fs i 0 → set bs (i + 1) x ≡ (k ∷ take (i + 1) fs) ++ replicate (22 - (i + 1)) k
-content_more k x i fs bs h l e is =
-    let long : length (k ∷ take i fs) ≡ i + 1 = omega (arith, length-take-le i fs (omega arith)) in
-    ap (λ xs. set xs (i + 1) x) e
-    ∙ row_more (k ∷ take i fs) (22 - (i + 1)) (22 - i) (i + 1) x k long (omega arith)
-    ∙ ap (λ xs. (k ∷ xs) ++ replicate (22 - (i + 1)) k) (ap (λ y. take i fs ++ (y ∷ [])) is ∙ sym (take_more fs i 0 h))
-
--- all of it
-pub content_all : (k n i : ℕ) (fs bs : List ℕ) → i ≡ length fs → n ≡ i + 1 → bs ≡ (k ∷ take i fs) ++ replicate (22 - i) k → take n bs ≡ k ∷ fs
-content_all k n i fs bs e h is =
-    let all = take_all i fs (omega arith) in
-    ap (take n) (is ∙ ap (λ xs. (k ∷ xs) ++ replicate (22 - i) k) all) ∙ take_at (k ∷ fs) (replicate (22 - i) k) n (omega arith)
-
 -- bytes in front of an array that has room for them
 pub packed_front : {U : Type 0} (bs before after : List ℕ) (r : Result U WriteRefusal) (n : ℕ) → length bs ≡ n → n ≤ length before → Packs bs before after r → (take n after ≡ bs)
 packed_front bs before after (Ok u) n e h w = ap (take n) w.1 ∙ take_at bs (drop (length bs) before) n e
 packed_front bs before after (Err x) n e h w = let l = w.0 in absurd (omega arith)
 
+-- as many frames as there are
+pub frames_count : {X : Type 0} (frame-of : X → List ℕ) (fs : List Frame) (xs : List X) (hs : List (List ℕ)) (i : ℕ) → i ≤ length xs → map body fs ≡ hs ++ map frame-of (take i xs) → length fs ≡ length hs + i
+frames_count frame-of fs xs hs i h is = sym (length-map fs body) ∙ ap length is ∙ length-append hs (map frame-of (take i xs)) ∙ ap (λ n. length hs + n) (length-map (take i xs) frame-of ∙ length-take-le i xs h)
+
 -- one frame more
-pub frames_more : {X : Type 0} (frame-of : X → List ℕ) (fs : List Frame) (xs : List X) (hs : List (List ℕ)) (i : ℕ) (d : X) (f : Frame) → i + 1 < length fs → i < length xs → map body (take (i + 1) fs) ≡ hs ++ map frame-of (take i xs) → body f ≡ frame-of (get_or xs i d) →
-    map body (take (i + 1 + 1) (set fs (i + 1) f)) ≡ hs ++ map frame-of (take (i + 1) xs)
-frames_more frame-of fs xs hs i d f h l e is =
-    ap (map body) (take_more_set fs (i + 1) f h)
-    ∙ map_push body (take (i + 1) fs) f
+pub frames_more : {X : Type 0} (frame-of : X → List ℕ) (fs : List Frame) (xs : List X) (hs : List (List ℕ)) (i : ℕ) (d : X) (f : Frame) → i < length xs → map body fs ≡ hs ++ map frame-of (take i xs) → body f ≡ frame-of (get_or xs i d) →
+    map body (fs ++ (f ∷ [])) ≡ hs ++ map frame-of (take (i + 1) xs)
+frames_more frame-of fs xs hs i d f l e is =
+    map_push body fs f
     ∙ ap (λ gs. gs ++ (body f ∷ [])) e
     ∙ append_assoc hs (map frame-of (take i xs)) (body f ∷ [])
     ∙ ap (λ gs. hs ++ gs) (ap (λ g. map frame-of (take i xs) ++ (g ∷ [])) is ∙ sym (map_more frame-of xs i d l))
@@ -86,13 +63,9 @@ module _ {C P R F : Type 0} (ch : chart.Ghosts C P) (ru : rule.Ghosts R) (fa : f
   page-sized = sym (network_length fa.laws d.family d.inputs (seen ch ru fa d))
 
   -- the frames of the heading and of every cell are the page's
-  pub page_written : (fs : List Frame) (i n : ℕ) → i ≡ d.netlist.count → n ≡ i + 1 →
-      map body (take (i + 1) fs) ≡ (heading_frame (fa.number d.family) (network_seen ch ru fa d) ∷ []) ++ map (λ x. cell_frame (configured (fa.pins d.family) (fa.packed d.family) (seen_cell x))) (take i d.netlist.cells) →
-      text (map body (take n fs)) ≡ page_of ch ru fa d
-  page_written fs i n e h is =
-      let heading = heading_frame (fa.number d.family) (network_seen ch ru fa d) in
-      let make = configured (fa.pins d.family) (fa.packed d.family) in
-      ap text (ap (λ k. map body (take k fs)) h ∙ is ∙ ap (λ gs. heading ∷ gs) (cell_frames seen_cell make (take i d.netlist.cells) ∙ ap (λ k. map cell_frame (map make (map seen_cell (take k d.netlist.cells)))) e))
+  pub page_written : (fs : List Frame) → map body fs ≡ (heading_frame (fa.number d.family) (network_seen ch ru fa d) ∷ []) ++ map (λ x. cell_frame (configured (fa.pins d.family) (fa.packed d.family) (seen_cell x))) d.netlist.cells.items → text (map body fs) ≡ page_of ch ru fa d
+  page_written fs is =
+      ap text (is ∙ ap (λ gs. heading_frame (fa.number d.family) (network_seen ch ru fa d) ∷ gs) (cell_frames seen_cell (configured (fa.pins d.family) (fa.packed d.family)) d.netlist.cells.items))
 
   -- a call that leaves the design
   same-design : (a : Answer) → Ordered (checks (ru.code d.rule) (fa.pins d.family) (fa.size d.family) (ch.fits d.chart.below) (seen ch ru fa d) (Write (length before))) (Wrote (page_bytes (fa.pins d.family) (fa.size d.family) (length (seen ch ru fa d).cells))) a → Step ch ru fa d (Write (length before)) a d

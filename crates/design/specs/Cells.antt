@@ -1,5 +1,5 @@
 -- The cells of a design as its user sees them.
-use Rattle.std.specs.Prelude.{ℕ, ◌+◌, ◌-◌, ◌/◌, ◌%◌, ◌^◌, cond, List, map, length, take, nat_eq, nat_lt, slice_index}
+use Rattle.std.specs.Prelude.{ℕ, ◌-◌, ◌/◌, ◌%◌, ◌^◌, List, map, length, nat_eq, slice_index}
 use Rattle.std.specs.List.{range_with_len}
 use Rattle.families.specs.Tables.{tabled}
 use Rattle.mapping.specs.States as states
@@ -8,11 +8,11 @@ use Rattle.design.specs.declared.netlist.Netlist.{Netlist}
 
 -- a cell: the pins that are used, and the table
 abbrev pub seen_cell : Cell → states.Cell
-seen_cell c = states.cell (take c.used c.pins) c.table
+seen_cell c = states.cell c.pins.items c.table
 
 -- the cells that were made
 abbrev pub cells_of : Netlist → List states.Cell
-cells_of n = map seen_cell (take n.count n.cells)
+cells_of n = map seen_cell n.cells.items
 
 -- the table whose entry e is the bit of weight 2 ^ (j - 1 - t) of the code of the class with the number at e
 abbrev pub number_table : (ℕ → ℕ → ℕ) → ℕ → List ℕ → ℕ → ℕ
@@ -21,7 +21,3 @@ number_table code j numbers t = tabled (length numbers) (λ e. nat_eq (code j (s
 -- the first k of the cells on these pins that carry the codes
 abbrev pub code_cells : (ℕ → ℕ → ℕ) → ℕ → List ℕ → List ℕ → ℕ → List states.Cell
 code_cells code j pins numbers k = map (λ t. states.cell pins (number_table code j numbers t)) (range_with_len 0 k)
-
--- the live signal at i after a split: the new cells, from the signal `first` on, and then the free signals
-abbrev pub live_signal : List ℕ → ℕ → ℕ → ℕ → ℕ → ℕ
-live_signal live b j first i = cond (nat_lt i j) (first + i) (slice_index live (i - j + b))

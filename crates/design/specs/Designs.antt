@@ -23,6 +23,7 @@ use Rattle.mapping.specs.Answers.{Answers, Ranged, page_bytes}
 use Rattle.mapping.specs.Kept.{network_of}
 use Rattle.design.specs.Cells.{cells_of}
 use Rattle.design.specs.declared.design.Design.{Design}
+use Rattle.design.specs.declared.splitting.SplitCounts.{SplitCounts}
 
 -- the answer of a swap or a close
 abbrev pub done_answer : {U : Type 0} → Result U Refusal → Answer
@@ -30,14 +31,19 @@ done_answer (Ok u) = Done
 done_answer (Err e) = Refused e
 
 -- the answer of a split: how many classes there are, and how many cells
-abbrev pub split_answer : Result (ℕ × ℕ) Refusal → Answer
-split_answer (Ok p) = Divided p.0 p.1
+abbrev pub split_answer : Result SplitCounts Refusal → Answer
+split_answer (Ok s) = Divided s.classes s.cells
 split_answer (Err e) = Refused e
 
 -- the answer of a write: how many bytes there are
 abbrev pub write_answer : Result ℕ Refusal → Answer
 write_answer (Ok n) = Wrote n
 write_answer (Err e) = Refused e
+
+-- the answer of a call
+abbrev pub answer_of : Result Answer Refusal → Answer
+answer_of (Ok a) = a
+answer_of (Err e) = Refused e
 
 -- the inverting charts over the charts C
 abbrev pub inverted : {C P : Type 0} → chart.Ghosts C P → chart.Ghosts (Inverting C P) P

@@ -1,4 +1,3 @@
 pub mod Cells
-pub mod Refusals
 pub mod Designs
 pub mod Runs

@@ -1,9 +1,26 @@
 //! A cell of a design.
 
-/// A cell: the signals at its pins, how many of the pins are used, and its table, whose entry E is the bit of weight 2^E.
+ghost use Rattle.std.specs.Prelude.{◌≡◌};
+ghost use Rattle.mapping.specs.States.{yield};
+
+use families::tables::entry_of;
+use intake::signals::Signals;
+use rows::Row;
+
+/// A cell: the signals at the pins that it uses, and its table, whose entry E is the bit of weight 2^E.
 #[derive(Clone, Copy)]
 pub struct Cell {
-    pub(crate) pins: [u8; 5],
-    pub(crate) used: usize,
+    pub(crate) pins: Row<u8, 5>,
     pub(crate) table: u32,
+}
+
+impl Cell {
+    ghost use Rattle.design.specs.Cells.{seen_cell};
+
+    /// The bit that the cell yields.
+    pub(crate) fn bit(&self, signals: &Signals) -> bool
+        ensures { result ≡ yield signals.now (seen_cell self.now) }
+    {
+        entry_of(self.table, signals.assignment(self.pins.as_slice()))
+    }
 }

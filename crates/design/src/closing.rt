@@ -25,11 +25,7 @@ impl<C: Chart, R: CodeRule, F: CellFamily> Design<C, R, F> {
         }
         let pins = first_signals(&self.live, m);
         let table = function_table(&self.chart);
-        self.netlist.close(Cell {
-            pins,
-            used: m,
-            table,
-        });
+        self.netlist.close(Cell { pins, table });
         Ok(())
     }
 }

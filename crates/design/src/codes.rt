@@ -1,6 +1,6 @@
 //! The classes of a split, and the cells that carry their codes.
 
-ghost use Rattle.std.specs.Prelude.{◌≡◌, ℕ, ◌+◌, ◌-◌, ◌/◌, ◌%◌, ◌^◌, ◌<◌, ◌≤◌, ◌++◌, map, length, take, ◌==◌, slice_index};
+ghost use Rattle.std.specs.Prelude.{◌≡◌, ℕ, ◌+◌, ◌-◌, ◌/◌, ◌%◌, ◌^◌, ◌<◌, ◌≤◌, ◌++◌, map, length, ◌==◌, slice_index};
 ghost use Rattle.std.specs.List.{range_with_len};
 ghost use Rattle.functions.specs.Classes.{columns, classes as classes_of, class_of};
 ghost use Rattle.functions.specs.Words.{bits};
@@ -11,38 +11,31 @@ ghost use Rattle.design.specs.Cells.{cells_of, number_table, code_cells};
 use super::cell::Cell;
 use super::netlist::Netlist;
 use super::tables::assignments;
+use bits::bit_of;
 use charts::{Chart, find, walk};
 use families::tables::table_of;
+use rows::Row;
 use rules::rule::{CodeRule, class_of_code};
+use std::array;
 
-/// The class number of the bound assignment `e`, where the places of the classes stand in front of the strip.
-fn class_at<C: Chart>(chart: &C, b: usize, strip: &[C::Place], classes: usize, e: usize) -> usize
+/// The class number of the bound assignment `e`, by the places of the classes.
+fn class_at<C: Chart>(chart: &C, b: usize, places: &[C::Place], e: usize) -> usize
     requires inside { e < 2 ^ b }
-    requires strip { map (C.Chart.column chart.now b) (take classes strip.now) ≡ classes_of (columns b (chart_function C.Chart chart.now)) }
+    requires places { map (C.Chart.column chart.now b) places.now ≡ classes_of (columns b (chart_function C.Chart chart.now)) }
     ensures { result ≡ class_of b (chart_function C.Chart chart.now) (bits b e) }
 {
-    let place = walk(chart, b, e);
-    match find(chart, b, strip, classes, place) {
-        Some(class) => class,
-        None => 0,
-    }
+    find(chart, b, places, walk(chart, b, e)).unwrap()
 }
 
-/// The class number of each bound assignment.
-pub(crate) fn class_numbers<C: Chart>(
-    chart: &C,
-    b: usize,
-    strip: &[C::Place],
-    classes: usize,
-) -> [usize; 32]
+/// The class number of each bound assignment, by the places of the classes.
+pub(crate) fn class_numbers<C: Chart>(chart: &C, b: usize, places: &[C::Place]) -> Row<usize, 32>
     requires few { b ≤ 5 }
-    requires strip { map (C.Chart.column chart.now b) (take classes strip.now) ≡ classes_of (columns b (chart_function C.Chart chart.now)) }
-    ensures long { length result ≡ 32 }
-    ensures numbers { (e : ℕ) → e < 2 ^ b → slice_index result e ≡ class_of b (chart_function C.Chart chart.now) (bits b e) }
+    requires places { map (C.Chart.column chart.now b) places.now ≡ classes_of (columns b (chart_function C.Chart chart.now)) }
+    ensures { result.items ≡ map (λ e. class_of b (chart_function C.Chart chart.now) (bits b e)) (range_with_len 0 (2 ^ b)) }
 {
-    let mut numbers = [0; 32];
+    let mut numbers = Row::new(0);
     for e in 0..assignments(b) {
-        numbers[e] = class_at(chart, b, strip, classes, e);
+        numbers.push(class_at(chart, b, places, e));
     }
     numbers
 }
@@ -54,19 +47,14 @@ pub(crate) fn code_classes<R: CodeRule>(rule: &R, j: usize, classes: usize) -> [
     ensures long { length result ≡ 16 }
     ensures classes { (q : ℕ) → q < 16 → slice_index result q ≡ holder (R.CodeRule.code rule.now j) q classes }
 {
-    let mut class_of = [0; 16];
-    for q in 0..16 {
-        class_of[q] = class_of_code(rule, j, classes, q);
-    }
-    class_of
+    array::from_fn(|q| class_of_code(rule, j, classes, q))
 }
 
 /// The bit of weight 2^`k` of the code of a class.
 fn code_bit<R: CodeRule>(rule: &R, j: usize, k: usize, class: usize) -> bool
-    requires { k < 4 }
     ensures { result ≡ (R.CodeRule.code rule.now j class / 2 ^ k % 2 == 1) }
 {
-    (rule.code(j, class) >> k) % 2 == 1
+    bit_of(rule.code(j, class) as u64, k)
 }
 
 /// The place, by its weight 2^k, of the code bit that a split's cell `t` of `j` carries.
@@ -84,36 +72,30 @@ fn code_table<R: CodeRule>(rule: &R, j: usize, t: usize, numbers: &[usize]) -> u
     requires short { length numbers.now ≤ 32 }
     ensures { result ≡ number_table (R.CodeRule.code rule.now) j numbers.now t }
 {
-    let mut entries = [false; 32];
+    let mut entries: Row<bool, 32> = Row::new(false);
     let place = place_of(j, t);
-    for (e, class) in numbers.iter().enumerate() {
-        entries[e] = code_bit(rule, j, place, *class);
+    for class in numbers {
+        entries.push(code_bit(rule, j, place, *class));
     }
-    table_of(&entries[0..numbers.len()])
+    table_of(entries.as_slice())
 }
 
-/// Adds the cells that carry the codes of the classes with these numbers, on the first `b` pins.
+/// Adds the cells that carry the codes of the classes with these numbers, on the given pins.
 pub(crate) fn add_code_cells<R: CodeRule>(
     netlist: &mut Netlist,
     rule: &R,
-    pins: [u8; 5],
-    b: usize,
+    pins: Row<u8, 5>,
     j: usize,
     numbers: &[usize],
 )
     requires few { j ≤ 4 }
-    requires room { netlist.old.count + j ≤ 47 }
+    requires room { length (cells_of netlist.old) + j ≤ 47 }
     requires short { length numbers.now ≤ 32 }
-    ensures cells { cells_of netlist.new ≡ cells_of netlist.old ++ code_cells (R.CodeRule.code rule.now) j (take b pins) numbers.now j }
-    ensures count { netlist.new.count ≡ netlist.old.count + j }
+    ensures cells { cells_of netlist.new ≡ cells_of netlist.old ++ code_cells (R.CodeRule.code rule.now) j pins.items numbers.now j }
     ensures closed { netlist.new.closed ≡ netlist.old.closed }
 {
     for t in 0..j {
         let table = code_table(rule, j, t, numbers);
-        netlist.add(Cell {
-            pins,
-            used: b,
-            table,
-        });
+        netlist.add(Cell { pins, table });
     }
 }

@@ -17,3 +17,4 @@ mod tables;
 pub use cell::Cell;
 pub use design::Design;
 pub use running::perform;
+pub use splitting::SplitCounts;

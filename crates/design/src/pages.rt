@@ -1,6 +1,6 @@
 //! Writing the page of a closed design.
 
-ghost use Rattle.std.specs.Prelude.{◌≡◌, ℕ, ◌+◌, ◌<◌, ◌≤◌, min, [], ◌∷◌, ◌++◌, length, take, replicate, slice_index};
+ghost use Rattle.std.specs.Prelude.{◌≡◌, ℕ, ◌≤◌, [], ◌∷◌, ◌++◌, length, take, replicate};
 ghost use Rattle.frames.specs.Text.{sealed};
 ghost use Rattle.frames.specs.Outcome.{body};
 ghost use Rattle.families.specs.Widening.{widened_table};
@@ -18,6 +18,7 @@ use frames::frame::Frame;
 use frames::kinds::Kind;
 use frames::writer::write_frames;
 use mapping::refusal::Refusal;
+use rows::Row;
 use rules::rule::CodeRule;
 
 /// The mark of a pin that is not used.
@@ -29,18 +30,16 @@ fn pin_bytes(cell: &Cell) -> [u8; 5]
     ensures pins { (k : ℕ) → k ≤ 5 → take k result ≡ take k ((seen_cell cell.now).pins ++ replicate k 255) }
 {
     let mut bytes = [UNUSED; 5];
-    for i in 0..cell.used.min(5) {
-        bytes[i] = cell.pins[i];
-    }
+    let pins = cell.pins.as_slice();
+    bytes[..pins.len()].copy_from_slice(pins);
     bytes
 }
 
 /// The table of a cell as one on all pins of its family.
 fn full_table<F: CellFamily>(family: &F, cell: &Cell) -> u32
-    ensures value { result ≡ widened_table (F.CellFamily.pins family.now) (min cell.now.used 5) cell.now.table }
-    ensures long { length cell.now.pins ≡ 5 }
+    ensures { result ≡ widened_table (F.CellFamily.pins family.now) (length cell.now.pins.items) cell.now.table }
 {
-    widened(family.pins(), cell.used.min(5), cell.table)
+    widened(family.pins(), cell.pins.as_slice().len(), cell.table)
 }
 
 /// The configuration of a cell, in front of other bytes.
@@ -54,27 +53,17 @@ fn config_bytes<F: CellFamily>(family: &F, cell: &Cell) -> [u8; 16]
     bytes
 }
 
-/// The byte at `i` of two rows of bytes, one after the other.
-fn byte_at(first: &[u8], second: &[u8], i: usize) -> u8
-    requires { i < length first.now + length second.now }
-    ensures { result ≡ slice_index (first.now ++ second.now) i }
-{
-    let n = first.len();
-    if i < n { first[i] } else { second[i - n] }
-}
-
 /// The frame of a cell with these pins and this configuration.
 fn sealed_cell(pins: &[u8], config: &[u8]) -> Frame
     requires pins { length pins.now ≤ 5 }
     requires config { length config.now ≤ 16 }
     ensures { body result ≡ sealed (0x12 ∷ (pins.now ++ config.now)) }
 {
-    let mut content = [u8::from(Kind::Cell); 23];
-    let fields = pins.len() + config.len();
-    for i in 0..fields {
-        content[i + 1] = byte_at(pins, config, i);
-    }
-    Frame::sealed(&content[0..fields + 1]).unwrap()
+    let mut content: Row<u8, 23> = Row::new(0);
+    content.push(u8::from(Kind::Cell));
+    content.extend_from_slice(pins);
+    content.extend_from_slice(config);
+    Frame::sealed(content.as_slice()).unwrap()
 }
 
 /// The frame of a cell.
@@ -83,7 +72,7 @@ fn frame_of<F: CellFamily>(family: &F, cell: &Cell) -> Frame
 {
     let pins = pin_bytes(cell);
     let config = config_bytes(family, cell);
-    sealed_cell(&pins[0..family.pins()], &config[0..family.bytes()])
+    sealed_cell(&pins[..family.pins()], &config[..family.bytes()])
 }
 
 /// The content of a heading: the family's number, the number of inputs and that of cells.
@@ -98,7 +87,11 @@ impl<C: Chart, R: CodeRule, F: CellFamily> Design<C, R, F> {
     fn heading(&self) -> Frame
         ensures { body result ≡ heading_frame (F.CellFamily.number self.now.family) (network_seen C.Chart R.CodeRule F.CellFamily self.now) }
     {
-        let content = heading_content(self.family.number(), self.inputs, self.netlist.count as u8);
+        let content = heading_content(
+            self.family.number(),
+            self.inputs,
+            self.netlist.count() as u8,
+        );
         Frame::sealed(&content).unwrap()
     }
 
@@ -110,14 +103,12 @@ impl<C: Chart, R: CodeRule, F: CellFamily> Design<C, R, F> {
         if !self.netlist.closed {
             return Err(Refusal::StillOpen);
         }
-        let mut frames = [self.heading(); 49];
-        let count = self.netlist.count;
-        for i in 0..count {
-            frames[i + 1] = frame_of(&self.family, &self.netlist.cells[i]);
+        let heading = self.heading();
+        let mut frames: Row<Frame, 49> = Row::new(heading);
+        frames.push(heading);
+        for cell in self.netlist.cells.as_slice() {
+            frames.push(frame_of(&self.family, cell));
         }
-        match write_frames(&frames[0..count + 1], out) {
-            Ok(bytes) => Ok(bytes),
-            Err(_) => Err(Refusal::TooShort),
-        }
+        Ok(write_frames(frames.as_slice(), out)?)
     }
 }

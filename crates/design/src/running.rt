@@ -5,10 +5,11 @@ ghost use Rattle.charts.specs.Walks.{chart_function};
 ghost use Rattle.mapping.specs.Histories.{events};
 ghost use Rattle.mapping.specs.Judged.{Judged};
 ghost use Rattle.mapping.specs.Kept.{Reaches};
-ghost use Rattle.design.specs.Designs.{done_answer, split_answer, write_answer, seen};
+ghost use Rattle.design.specs.Designs.{answer_of, seen};
 ghost use Rattle.design.specs.Runs.{tolds, setting, Does, Goes, Ran, Promise};
 
 use super::design::Design;
+use super::splitting::SplitCounts;
 use charts::Chart;
 use families::family::CellFamily;
 use mapping::answer::Answer;
@@ -16,56 +17,46 @@ use mapping::call::Call;
 use mapping::refusal::Refusal;
 use rules::rule::CodeRule;
 
-/// The answer of a swap or a close.
-fn plain_answer(res: Result<(), Refusal>) -> Answer
-    ensures { result ≡ done_answer res }
-{
-    match res {
-        Ok(()) => Answer::Done,
-        Err(refusal) => Answer::Refused { refusal },
-    }
-}
-
-/// The answer of a split.
-fn split_answer(res: Result<(usize, usize), Refusal>) -> Answer
-    ensures { result ≡ split_answer res }
-{
-    match res {
-        Ok((classes, cells)) => Answer::Divided { classes, cells },
-        Err(refusal) => Answer::Refused { refusal },
-    }
-}
-
-/// The answer of a write.
-fn write_answer(res: Result<usize, Refusal>) -> Answer
-    ensures { result ≡ write_answer res }
-{
-    match res {
-        Ok(bytes) => Answer::Wrote { bytes },
-        Err(refusal) => Answer::Refused { refusal },
-    }
-}
-
 impl<C: Chart, R: CodeRule, F: CellFamily> Design<C, R, F> {
+    /// Makes a call, which is lent as much of the strip or of the buffer as it names, or all of it if that is less.
+    fn made(
+        &mut self,
+        call: Call,
+        strip: &mut [C::Place],
+        out: &mut [u8],
+    ) -> Result<Answer, Refusal>
+        ensures { Does C.Chart R.CodeRule F.CellFamily (setting C.Chart R.CodeRule F.CellFamily self.old strip.old out.old) call (answer_of result) (setting C.Chart R.CodeRule F.CellFamily self.new strip.new out.new) }
+    {
+        match call {
+            Call::Swap { place } => {
+                self.swap(place)?;
+                Ok(Answer::Done)
+            }
+            Call::Split { bound, codes, room } => {
+                let lent = room.min(strip.len());
+                let SplitCounts { classes, cells } = self.split(bound, codes, &mut strip[..lent])?;
+                Ok(Answer::Divided { classes, cells })
+            }
+            Call::Close => {
+                self.close()?;
+                Ok(Answer::Done)
+            }
+            Call::Pin { inputs } => Ok(Answer::Shows {
+                bit: self.pin(inputs),
+            }),
+            Call::Write { room } => {
+                let lent = room.min(out.len());
+                let bytes = self.write(&mut out[..lent])?;
+                Ok(Answer::Wrote { bytes })
+            }
+        }
+    }
+
     /// Makes a call, which is lent as much of the strip or of the buffer as it names, or all of it if that is less.
     pub fn call(&mut self, call: Call, strip: &mut [C::Place], out: &mut [u8]) -> Answer
         ensures { Does C.Chart R.CodeRule F.CellFamily (setting C.Chart R.CodeRule F.CellFamily self.old strip.old out.old) call result (setting C.Chart R.CodeRule F.CellFamily self.new strip.new out.new) }
     {
-        match call {
-            Call::Swap { place } => plain_answer(self.swap(place)),
-            Call::Split { bound, codes, room } => {
-                let lent = room.min(strip.len());
-                split_answer(self.split(bound, codes, &mut strip[0..lent]))
-            }
-            Call::Close => plain_answer(self.close()),
-            Call::Pin { inputs } => Answer::Shows {
-                bit: self.pin(inputs),
-            },
-            Call::Write { room } => {
-                let lent = room.min(out.len());
-                write_answer(self.write(&mut out[0..lent]))
-            }
-        }
+        self.made(call, strip, out).unwrap_or_else(Answer::from)
     }
 }
 
@@ -80,31 +71,10 @@ fn run<C: Chart, R: CodeRule, F: CellFamily>(
     ensures goes { Goes C.Chart R.CodeRule F.CellFamily (setting C.Chart R.CodeRule F.CellFamily design.old strip.old out.old) (tolds (length strip.old) (length out.old) calls.now answers.new) (setting C.Chart R.CodeRule F.CellFamily design.new strip.new out.new) }
     ensures rest { drop (length calls.now) answers.new ≡ drop (length calls.now) answers.old }
 {
-    let count = calls.len().min(answers.len());
-    for i in 0..count {
-        answers[i] = design.call(calls[i], strip, out);
+    for (i, answer) in answers.iter_mut().enumerate() {
+        let Some(call) = calls.get(i) else { break };
+        *answer = design.call(*call, strip, out);
     }
-}
-
-/// Opens a design and makes calls on it.
-fn performed<C: Chart, R: CodeRule, F: CellFamily>(
-    chart: C,
-    rule: R,
-    family: F,
-    calls: &[Call],
-    answers: &mut [Answer],
-    strip: &mut [C::Place],
-    out: &mut [u8],
-) -> Design<C, R, F>
-    ensures run { Ran C.Chart R.CodeRule F.CellFamily chart rule family strip.old out.old (tolds (length strip.old) (length out.old) calls.now answers.new) (setting C.Chart R.CodeRule F.CellFamily result strip.new out.new) }
-    ensures judged { Judged (R.CodeRule.code rule) (F.CellFamily.pins family) (F.CellFamily.size family) (C.Chart.fits chart) (C.Chart.arity chart) (chart_function C.Chart chart) [] (tolds (length strip.old) (length out.old) calls.now answers.new) }
-    ensures kept { Promise C.Chart R.CodeRule F.CellFamily (C.Chart.arity chart) (chart_function C.Chart chart) (events (tolds (length strip.old) (length out.old) calls.now answers.new)) result }
-    ensures reached { Reaches (R.CodeRule.code rule) (F.CellFamily.pins family) (F.CellFamily.size family) (C.Chart.fits chart) (C.Chart.arity chart) (chart_function C.Chart chart) (tolds (length strip.old) (length out.old) calls.now answers.new) (seen C.Chart R.CodeRule F.CellFamily result) }
-    ensures rest { drop (length calls.now) answers.new ≡ drop (length calls.now) answers.old }
-{
-    let mut design = Design::open(chart, rule, family);
-    run(&mut design, calls, answers, strip, out);
-    design
 }
 
 /// Opens a design with a chart and makes calls on it, as many as there is room for answers. A call is lent as much of the
@@ -130,5 +100,7 @@ pub fn perform<C: Chart, R: CodeRule, F: CellFamily>(
     ensures reached { Reaches (R.CodeRule.code rule) (F.CellFamily.pins family) (F.CellFamily.size family) (C.Chart.fits chart) (C.Chart.arity chart) (chart_function C.Chart chart) (tolds (length strip.old) (length out.old) calls.now answers.new) (seen C.Chart R.CodeRule F.CellFamily result) }
     ensures rest { drop (length calls.now) answers.new ≡ drop (length calls.now) answers.old }
 {
-    performed(chart, rule, family, calls, answers, strip, out)
+    let mut design = Design::open(chart, rule, family);
+    run(&mut design, calls, answers, strip, out);
+    design
 }

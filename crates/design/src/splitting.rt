@@ -1,18 +1,17 @@
 //! Splits.
 
-ghost use Rattle.std.specs.Prelude.{◌≡◌, ◌+◌, ◌-◌, ◌<◌, ◌≤◌, ◌++◌, length, take, drop, Decides};
+ghost use Rattle.std.specs.Prelude.{◌≡◌, ◌+◌, ◌-◌, ◌<◌, ◌≤◌, ◌++◌, take, drop, Decides};
 ghost use Rattle.std.specs.List.{range_with_len};
 ghost use Rattle.mapping.specs.Answers.{Ranged};
-ghost use Rattle.design.specs.Cells.{live_signal};
 ghost use Rattle.design.specs.Designs.{split_answer, SplitCall};
 
 use super::codes::{add_code_cells, class_numbers, code_classes};
 use super::design::Design;
-use super::tables::assignments;
 use bits::power;
-use charts::{Chart, number_classes};
+use charts::{Chart, Recoding, number_classes};
 use families::family::CellFamily;
 use mapping::refusal::Refusal;
+use rows::Row;
 use rules::rule::CodeRule;
 
 /// The most cells that splits make.
@@ -26,45 +25,35 @@ fn in_range(pins: usize, m: usize, b: usize, j: usize) -> bool
 }
 
 /// The first `b` live signals.
-pub(crate) fn first_signals(live: &[u8; 16], b: usize) -> [u8; 5]
+pub(crate) fn first_signals(live: &[u8; 16], b: usize) -> Row<u8, 5>
     requires { b ≤ 5 }
-    ensures long { length result ≡ 5 }
-    ensures first { take b result ≡ take b live.now }
+    ensures { result.items ≡ take b live.now }
 {
-    let mut pins = [0; 5];
-    for i in 0..b {
-        pins[i] = live[i];
-    }
+    let mut pins = Row::new(0);
+    pins.extend_from_slice(&live[..b]);
     pins
 }
 
-/// The live signal at `i` after a split: first the new cells, from the signal `first` on, and then the free signals.
-fn signal_after(live: &[u8; 16], b: usize, j: usize, first: u8, i: usize) -> u8
-    requires fewer { j < b }
-    requires narrow { b ≤ 5 }
-    requires inside { i < 16 }
-    requires cell { first ≤ 64 }
-    ensures { result ≡ live_signal live.now b j first i }
-{
-    if i < j {
-        return first + i as u8;
-    }
-    let from = i - j + b;
-    if from < 16 { live[from] } else { 0 }
-}
-
-/// The live signals after a split of the first `b` of `m`.
+/// The live signals after a split of the first `b` of `m`: the new cells, from the signal `first` on, and the others.
 fn live_after(live: &[u8; 16], m: usize, b: usize, j: usize, first: u8) -> [u8; 16]
     requires fewer { j < b }
     requires narrow { (b ≤ 5) × ((b ≤ m) × (m ≤ 16)) }
     requires cell { first ≤ 64 }
     ensures { take (m - b + j) result ≡ range_with_len first j ++ drop b (take m live.now) }
 {
-    let mut signals = [0; 16];
-    for i in 0..16 {
-        signals[i] = signal_after(live, b, j, first, i);
+    let mut after = [0; 16];
+    for (i, signal) in after[..j].iter_mut().enumerate() {
+        *signal = first + i as u8;
     }
-    signals
+    after[j..m - b + j].copy_from_slice(&live[b..m]);
+    after
+}
+
+/// What a split made: how many classes it told apart, and how many cells the design has now.
+#[derive(Clone, Copy, PartialEq, Eq, Debug)]
+pub struct SplitCounts {
+    pub classes: usize,
+    pub cells: usize,
 }
 
 impl<C: Chart, R: CodeRule, F: CellFamily> Design<C, R, F> {
@@ -76,7 +65,7 @@ impl<C: Chart, R: CodeRule, F: CellFamily> Design<C, R, F> {
         b: usize,
         j: usize,
         strip: &mut [C::Place],
-    ) -> Result<(usize, usize), Refusal>
+    ) -> Result<SplitCounts, Refusal>
         ensures { SplitCall C.Chart R.CodeRule F.CellFamily self.old b j strip.old strip.new (split_answer result) self.new }
     {
         if self.netlist.closed {
@@ -92,26 +81,28 @@ impl<C: Chart, R: CodeRule, F: CellFamily> Design<C, R, F> {
         if classes > power(j) {
             return Err(Refusal::TooManyClasses { classes });
         }
-        let made = self.netlist.count;
+        let made = self.netlist.count();
         if made + j > MOST {
             return Err(Refusal::TooManyCells { classes });
         }
-        let numbers = class_numbers(&self.chart, b, strip, classes);
+        let places = &strip[..classes];
+        let numbers = class_numbers(&self.chart, b, places);
         let class_of = code_classes(&self.rule, j, classes);
-        if let Err(_) = self.chart.recode(b, j, &strip[0..classes], &class_of) {
+        let recoding = Recoding {
+            bound: b,
+            codes: j,
+            places,
+            class_of: &class_of,
+        };
+        let Ok(()) = self.chart.recode(&recoding) else {
             return Err(Refusal::SplitDoesNotFit { classes });
-        }
+        };
         let pins = first_signals(&self.live, b);
-        add_code_cells(
-            &mut self.netlist,
-            &self.rule,
-            pins,
-            b,
-            j,
-            &numbers[0..assignments(b)],
-        );
-        let live = live_after(&self.live, m, b, j, 16 + made as u8);
-        self.live = live;
-        Ok((classes, made + j))
+        add_code_cells(&mut self.netlist, &self.rule, pins, j, numbers.as_slice());
+        self.live = live_after(&self.live, m, b, j, 16 + made as u8);
+        Ok(SplitCounts {
+            classes,
+            cells: made + j,
+        })
     }
 }

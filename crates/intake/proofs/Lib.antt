@@ -2,4 +2,5 @@ pub mod Pins
 pub mod Fields
 pub mod Pages
 pub mod Remaining
-pub mod Signals
+pub mod Yields
+pub mod Closing

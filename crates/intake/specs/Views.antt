@@ -14,7 +14,7 @@ Holds ps cs c = (take (length ps) c.pins ≡ ps) × (take (length cs) c.config �
 
 -- the cells that are listed
 abbrev pub listed : Cells → List Cell
-listed cs = take cs.count cs.at
+listed cs = cs.cells.items
 
 -- the cell of a family with K pins and so many configuration bytes
 abbrev pub cell_of : ℕ → ℕ → Cell → NetCell

@@ -1,7 +1,12 @@
 //! A configured cell.
 
 ghost use Rattle.std.specs.Prelude.{◌≡◌, ◌≤◌, length};
-ghost use Rattle.intake.specs.Views.{Holds};
+ghost use Rattle.families.specs.Laws.{meant};
+ghost use Rattle.intake.specs.Networks.{cell_bit};
+ghost use Rattle.intake.specs.Views.{Holds, cell_of};
+
+use crate::signals::Signals;
+use families::family::CellFamily;
 
 /// The byte of a pin that is not used.
 pub const UNUSED: u8 = 0xFF;
@@ -41,5 +46,13 @@ impl Cell {
         ensures { result.now ≡ self.now.config }
     {
         &self.config
+    }
+
+    /// The bit that the cell yields in a family.
+    pub(crate) fn bit<F: CellFamily>(&self, family: &F, signals: &Signals) -> bool
+        ensures { result ≡ cell_bit (meant (F.CellFamily.size family.now) (F.CellFamily.pins family.now) (F.CellFamily.reads family.now)) signals.now (cell_of (F.CellFamily.pins family.now) (F.CellFamily.size family.now) self.now) }
+    {
+        let e = signals.assignment(&self.pins[..family.pins()]);
+        family.read(&self.config[..family.bytes()], e)
     }
 }

@@ -6,4 +6,4 @@ pub mod cells;
 pub mod network;
 pub mod reading;
 pub mod records;
-pub mod values;
+pub mod signals;

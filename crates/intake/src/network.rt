@@ -10,7 +10,7 @@ ghost use Rattle.intake.specs.Views.{network_of, listed, Loaded};
 use crate::cell::Cell;
 use crate::cells::Cells;
 use crate::reading::read_page;
-use crate::values::{bit_of, input_values};
+use crate::signals::Signals;
 use families::family::CellFamily;
 use frames::faults::PageFault;
 use frames::reader::FrameReader;
@@ -77,12 +77,10 @@ impl<F: CellFamily> Network<F> {
     pub fn pin(&self, inputs: u16) -> bool
         ensures { result ≡ network_pin (meant (F.CellFamily.size self.now.family) (F.CellFamily.pins self.now.family) (F.CellFamily.reads self.now.family)) (network_of (F.CellFamily.pins self.now.family) (F.CellFamily.size self.now.family) self.now.cells) (input_bits inputs) }
     {
-        let mut values = input_values(inputs);
-        let mut closing = false;
-        for (i, cell) in self.cells.as_slice().iter().enumerate() {
-            closing = bit_of(&self.family, &values, cell);
-            values[16 + i] = closing;
+        let mut signals = Signals::of_inputs(inputs);
+        for cell in self.cells.as_slice() {
+            signals.push(cell.bit(&self.family, &signals));
         }
-        !closing
+        !signals.closing()
     }
 }

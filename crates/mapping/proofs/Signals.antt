@@ -1,36 +1,14 @@
 -- The values of signals as cells are added.
-use Rattle.std.proofs.Common.{◌≡◌, ℕ, suc, ◌+◌, ◌<◌, ◌≤◌, Bool, false, List, [], ◌∷◌, ◌++◌, map, length, get_or, take, sym, refl, ap, ◌∙◌, arith}
+use Rattle.std.proofs.Common.{◌≡◌, ℕ, ◌+◌, ◌<◌, ◌≤◌, Bool, false, List, [], ◌∷◌, ◌++◌, map, length, get_or, take, sym, refl, ap, ◌∙◌, arith}
 use Rattle.std.specs.List.{range_with_len, AllByRecursion as All}
-use Rattle.std.proofs.lemmas.List.{length-append, append-nil, append_assoc, get_or_append_left, get_or-append-add, get_or_default, get_or-take, length-take-le, length_push, same_lists, take_more}
+use Rattle.std.proofs.lemmas.List.{length-append, append_assoc, get_or_append_left, get_or-append-add, get_or_default, get_or-take, length-take-le, length_push, same_lists}
 use Rattle.std.proofs.lemmas.List.FromFn.{length-map-range_with_len, get_or-map-range_with_len}
 use Rattle.std.proofs.ByRecursion.{All-weaker}
 use Rattle.functions.specs.Words.{number}
 use Rattle.families.specs.Tables.{entry_of}
-use Rattle.intake.specs.Networks.{yielded, last}
+use Rattle.intake.specs.Networks.{yielded}
+use Rattle.intake.proofs.Yields.{yielded-append, length-yielded}
 use Rattle.mapping.specs.States.{Cell, cell, values, yield, signals}
-
--- ---- cells one after another
-
-module _ {A : Type 0} (yields : List Bool → A → Bool) where
-  pub yielded-append : (vs : List Bool) (cs ds : List A) → yielded yields vs (cs ++ ds) ≡ yielded yields vs cs ++ yielded yields (vs ++ yielded yields vs cs) ds
-  yielded-append vs [] ds = ap (λ us. yielded yields us ds) (sym (append-nil vs))
-  yielded-append vs (c ∷ cs) ds =
-      let us = vs ++ (yields vs c ∷ []) in
-      ap (λ ws. yields vs c ∷ ws) (yielded-append us cs ds ∙ ap (λ ws. yielded yields us cs ++ yielded yields ws ds) (append_assoc vs (yields vs c ∷ []) (yielded yields us cs)))
-
-  pub length-yielded : (vs : List Bool) (cs : List A) → length (yielded yields vs cs) ≡ length cs
-  length-yielded vs [] = refl
-  length-yielded vs (c ∷ cs) = ap suc (length-yielded (vs ++ (yields vs c ∷ [])) cs)
-
-  -- one cell more
-  pub yielded-more : (vs : List Bool) (cs : List A) (i : ℕ) (d : A) → i < length cs →
-      yielded yields vs (take (i + 1) cs) ≡ yielded yields vs (take i cs) ++ (yields (vs ++ yielded yields vs (take i cs)) (get_or cs i d) ∷ [])
-  yielded-more vs cs i d h = ap (yielded yields vs) (take_more cs i d h) ∙ yielded-append vs (take i cs) (get_or cs i d ∷ [])
-
-pub last_push : (xs : List Bool) (y : Bool) → last (xs ++ (y ∷ [])) ≡ y
-last_push [] y = refl
-last_push (x ∷ []) y = refl
-last_push (x ∷ z ∷ xs) y = last_push (z ∷ xs) y
 
 pub signals-append : (vs : List Bool) (cs ds : List Cell) → signals vs (cs ++ ds) ≡ signals vs cs ++ yielded yield (signals vs cs) ds
 signals-append vs cs ds = ap (λ ws. vs ++ ws) (yielded-append yield vs cs ds) ∙ sym (append_assoc vs (yielded yield vs cs) (yielded yield (signals vs cs) ds))

@@ -15,7 +15,8 @@ use Rattle.families.proofs.TableEntries.{tabled_entry}
 use Rattle.intake.specs.Networks.{yielded, last}
 use Rattle.mapping.specs.States.{values, yield, signals, State, left_value, pin, opened, swapped_state, coded, code_table, split_cells, split_state, closing_cell, closed_state}
 use Rattle.mapping.proofs.Splitting.{code_bits, value-coded}
-use Rattle.mapping.proofs.Signals.{yielded-append, last_push, signals-append, length-signals, values-more, values_new, values-first, yielded_tables}
+use Rattle.intake.proofs.Yields.{yielded-append, last_push}
+use Rattle.mapping.proofs.Signals.{signals-append, length-signals, values-more, values_new, values-first, yielded_tables}
 
 not_not : (b : Bool) → not (not b) ≡ b
 not_not true = refl

@@ -4,3 +4,4 @@ pub mod Answers
 pub mod Histories
 pub mod Judged
 pub mod Kept
+pub mod Refusals

@@ -2,11 +2,12 @@
 
 ghost use Rattle.std.specs.Prelude.{◌≡◌};
 ghost use Rattle.mapping.specs.Calls.{answer_number, answer_classes};
+ghost use Rattle.mapping.specs.declared.answer.Answer.TheVariants.{Refused};
 
 use super::refusal::Refusal;
 
 /// What a call on a design answered.
-#[derive(Clone, Copy)]
+#[derive(Clone, Copy, PartialEq, Eq, Debug)]
 pub enum Answer {
     /// A swap or a close was done.
     Done,
@@ -20,6 +21,14 @@ pub enum Answer {
     Refused { refusal: Refusal },
 }
 
+impl From<Refusal> for Answer {
+    ghost from_gives = { λ r a. a ≡ Refused r };
+
+    fn from(refusal: Refusal) -> Answer {
+        Answer::Refused { refusal }
+    }
+}
+
 impl Answer {
     /// 0 for a call that was done, and else the refusal's number.
     pub fn number(&self) -> u8
@@ -31,6 +40,7 @@ impl Answer {
         }
     }
 
+    // Kept: the frame of an answer has 0 for none, so that each caller would turn an Option back into it.
     /// The class count that the answer tells: 0 where it tells none.
     pub fn classes(&self) -> usize
         ensures { result ≡ answer_classes self.now }

@@ -1,7 +1,7 @@
 //! The calls on a design that was opened.
 
 /// A call on a design.
-#[derive(Clone, Copy)]
+#[derive(Clone, Copy, PartialEq, Eq, Debug)]
 pub enum Call {
     /// Exchanges the live signals at `place` and `place` + 1.
     Swap {

@@ -2,9 +2,14 @@
 
 ghost use Rattle.std.specs.Prelude.{◌≡◌};
 ghost use Rattle.mapping.specs.Calls.{refusal_number, refusal_classes};
+ghost use Rattle.mapping.specs.Refusals.{of_swap};
+ghost use Rattle.mapping.specs.declared.refusal.Refusal.TheVariants.{TooShort};
+
+use buffers::WriteRefusal;
+use charts::ChartRefusal;
 
 /// Why a call on a design was refused.
-#[derive(Clone, Copy)]
+#[derive(Clone, Copy, PartialEq, Eq, Debug)]
 pub enum Refusal {
     /// The design is closed.
     Closed,
@@ -26,6 +31,29 @@ pub enum Refusal {
     TooShort,
 }
 
+/// Why a swap is refused that the chart refuses.
+impl From<ChartRefusal> for Refusal {
+    ghost from_gives = { λ c r. r ≡ of_swap c };
+
+    fn from(refusal: ChartRefusal) -> Refusal {
+        match refusal {
+            ChartRefusal::OutOfRange => Refusal::OutOfRange,
+            ChartRefusal::DoesNotFit => Refusal::DoesNotFit,
+        }
+    }
+}
+
+/// Why a write is refused that the buffer has no room for.
+impl From<WriteRefusal> for Refusal {
+    ghost from_gives = { λ _ r. r ≡ TooShort };
+
+    fn from(refusal: WriteRefusal) -> Refusal {
+        match refusal {
+            WriteRefusal::TooShort => Refusal::TooShort,
+        }
+    }
+}
+
 impl Refusal {
     /// The refusal's number.
     pub fn number(&self) -> u8
@@ -44,6 +72,7 @@ impl Refusal {
         }
     }
 
+    // Kept: the frame of an answer has 0 for none, so that each caller would turn an Option back into it.
     /// The class count that the refusal tells: 0 where it tells none.
     pub fn classes(&self) -> usize
         ensures { result ≡ refusal_classes self.now }

@@ -1,14 +1,22 @@
-use Rattle.std.proofs.Common.{[], ◌∷◌, ◌++◌, take, sym, ap, ◌∙◌, arith}
-use Rattle.std.proofs.lemmas.List.FromFn.{map-range_with_len_more}
-use Rattle.std.proofs.lemmas.List.{append_assoc}
+use Rattle.std.proofs.Common.{[], ◌∷◌, ◌++◌, length, sym, ap, ◌∙◌, arith}
+use Rattle.std.proofs.lemmas.List.FromFn.{length-map-range_with_len, map-range_with_len_more}
+use Rattle.std.proofs.lemmas.List.{append_assoc, length-append}
 use Rattle.mapping.specs.States.{cell}
 use Rattle.design.specs.Cells.{cells_of, number_table, code_cells}
 use Rattle.design.proofs.codes.add_code_cells.Goals as goal
 
+pub add-requires : goal.add-requires
+add-requires g c =
+    let old = cells_of c.args.netlist.now in
+    let made = code_cells (g.R.CodeRule.code c.args.rule.now) c.args.j c.args.pins.items c.args.numbers.now c.loop-t.t in
+    let n = ap length c.loop-t.invariant.0 ∙ length-append old made in
+    let k = length-map-range_with_len (λ t. cell c.args.pins.items (number_table (g.R.CodeRule.code c.args.rule.now) c.args.j c.args.numbers.now t)) 0 c.loop-t.t in
+    omega (arith, n, k)
+
 pub loop-t-preserved : goal.loop-t-preserved
 loop-t-preserved g c =
     let t = c.loop-t.t in
-    let ps = take c.args.b c.args.pins in
+    let ps = c.args.pins.items in
     let ns = c.args.numbers.now in
     let code = g.R.CodeRule.code c.args.rule.now in
     let old = cells_of c.args.netlist.now in
@@ -20,6 +28,5 @@ loop-t-preserved g c =
           ∙ ap (λ cs. cs ++ (new ∷ [])) inv.0
           ∙ append_assoc old made (new ∷ [])
           ∙ ap (λ cs. old ++ cs) (sym (map-range_with_len_more (λ k. cell ps (number_table code c.args.j ns k)) 0 t t (omega arith))),
-      c.add.ensures.count ∙ omega (arith, inv.1),
-      c.add.ensures.closed ∙ inv.2,
+      c.add.ensures.closed ∙ inv.1,
     )

@@ -1,19 +1,14 @@
-use Rattle.std.proofs.Common.{◌≡◌, ℕ, ◌-◌, min, List, length, take, replicate, ap, arith}
-use Rattle.std.proofs.lemmas.List.{length-append, length-take-le, length-replicate}
-use Rattle.design.proofs.Written.{pins-more, pins-padded}
+use Rattle.std.proofs.Common.{ℕ, ◌++◌, length, take, drop, replicate, ap, ◌∙◌, arith}
+use Rattle.std.proofs.lemmas.List.{length-append, length-drop}
+use Rattle.design.proofs.Written.{pins_padded}
 use Rattle.design.proofs.pages.pin_bytes.Goals as goal
-
-pub loop-i-preserved : goal.loop-i-preserved
-loop-i-preserved c = pins-more c.args.cell.now.pins c.loop-i.bytes c.loop-i.i (omega arith) (omega (arith, c.min-i-end.ensures)) c.loop-i.invariant
 
 pub returns : goal.returns
 returns c =
-    let ps = c.args.cell.now.pins in
-    let i = c.loop-i.i in
-    let l : length c.args.cell.now.pins ≡ 5 = omega arith in
-    let e : c.loop-i.i ≡ min c.args.cell.now.used 5 = omega (arith, c.min-i-end.ensures) in
-    let blank : List ℕ = replicate (5 - i) 255 in
+    let bs = c.as_slice-pins.result.now in
+    let few = c.as_slice-pins.ensures.few in
+    let over = ap (λ xs. xs ++ drop (length bs) (replicate 5 255)) c.copy_from_slice.ensures.after in
     record {
-      long = omega (arith, ap length c.loop-i.invariant, length-append (take i ps) blank, length-take-le i ps (omega arith), length-replicate {A = ℕ} (5 - i) 255);
-      pins = pins-padded ps c.loop-i.bytes c.args.cell.now.used i l e c.loop-i.invariant;
+      long = ap length over ∙ length-append bs (drop (length bs) (replicate 5 255)) ∙ omega (arith, length-drop {A = ℕ} (length bs) (replicate 5 255));
+      pins = λ k l. ap (take k) over ∙ pins_padded bs few k l ∙ ap (λ xs. take k (xs ++ replicate k 255)) c.as_slice-pins.ensures.value;
     }

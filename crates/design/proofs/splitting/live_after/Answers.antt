@@ -1,19 +1,17 @@
-use Rattle.std.proofs.Common.{◌∙◌, arith}
-use Rattle.std.proofs.lemmas.List.{length-set}
-use Rattle.design.specs.Cells.{live_signal}
-use Rattle.design.proofs.Rows.{row_filled, live_row}
+use Rattle.std.proofs.Common.{◌≡◌, ℕ, ◌≤◌, length, take, replicate, refl, ◌∙◌, subst, arith}
+use Rattle.std.specs.List.{range_with_len}
+use Rattle.std.proofs.lemmas.List.{length-take}
+use Rattle.design.proofs.Rows.{range_push, live_row}
 use Rattle.design.proofs.splitting.live_after.Goals as goal
 
 pub loop-i-preserved : goal.loop-i-preserved
-loop-i-preserved c =
-    let xs = c.loop-i.signals in
-    let i = c.loop-i.i in
-    let inv = c.loop-i.invariant in (
-      length-set xs i _ ∙ inv.0,
-      row_filled (live_signal c.args.live.now c.args.b c.args.j c.args.first) xs i 0 c.signal_after.result (omega arith) c.signal_after.ensures inv.1,
-    )
+loop-i-preserved c = range_push c.args.first c.loop-i.i c.loop-i.signal-items (omega (arith, c.loop-i.auto.signal-items)) c.loop-i.invariant
 
 pub returns : goal.returns
 returns c =
-    let inv = c.loop-i.invariant in
-    live_row c.args.live.now c.loop-i.signals c.args.m c.args.b c.args.j c.args.first (omega arith) (omega arith) (omega arith) (omega arith) inv.0 (λ k l. inv.1 k (omega arith))
+    let j = c.args.j in
+    let news = c.loop-i.signal-items in
+    let few : c.args.j ≤ 16 = omega arith in
+    let long : length c.loop-i.signal-items ≡ c.args.j = c.loop-i.auto.signal-items ∙ length-take j (replicate 16 0) ∙ omega arith in
+    let done : c.loop-i.i ≡ c.args.j = omega (arith, length-take {A = ℕ} c.args.j (replicate 16 0), c.loop-i-test.false, c.loop-i.auto.i-end) in
+    live_row c.args.live.now news (replicate 16 0) c.copy_from_slice.new.self c.args.m c.args.b j c.args.first (omega arith) (omega arith) (omega arith) (omega arith) long refl (subst (λ k. take k c.loop-i.signal-items ≡ range_with_len c.args.first k) done c.loop-i.invariant) c.copy_from_slice.ensures.after

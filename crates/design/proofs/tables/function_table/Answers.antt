@@ -1,31 +1,30 @@
-use Rattle.std.proofs.Common.{◌-◌, ◌^◌, ap, ◌∙◌, arith}
-use Rattle.std.proofs.lemmas.List.{length-set}
+use Rattle.std.proofs.Common.{◌≡◌, ℕ, Bool, ◌^◌, ◌≤◌, min, false, length, get_or, lit<, ap, ◌∙◌, arith}
 use Rattle.functions.specs.Functions.{value}
 use Rattle.functions.specs.Words.{bits}
 use Rattle.families.specs.Tables.{tabled}
 use Rattle.charts.specs.Walks.{chart_function}
-use Rattle.design.proofs.Rows.{row_filled, row_table}
+use Rattle.rows.proofs.Firsts.{length_first, first_push}
+use Rattle.design.proofs.Rows.{table_of_first}
 use Rattle.design.proofs.tables.function_table.Goals as goal
+
+pub push-requires : goal.push-requires
+push-requires g c =
+    let n = length_first (λ e. value (chart_function g.C.Chart c.args.chart.now) (bits (g.C.Chart.arity c.args.chart.now) e)) c.loop-e.e c.loop-e.entries.items c.loop-e.invariant in
+    let few = c.assignments-e-end.ensures.bound in
+    (lit< tt, omega arith)
 
 pub loop-e-preserved : goal.loop-e-preserved
 loop-e-preserved g c =
-    let xs = c.loop-e.entries in
-    let e = c.loop-e.e in
-    let s = c.args.chart.now in
-    let m = g.C.Chart.arity s in
-    let f = chart_function g.C.Chart s in
-    let inv = c.loop-e.invariant in
-    let few = c.assignments-count.ensures.bound in
-    (length-set xs e _ ∙ inv.0, row_filled (λ k. value f (bits m k)) xs e _ c.value_at.result (omega arith) c.value_at.ensures inv.1)
+    c.push.ensures ∙ first_push (λ e. value (chart_function g.C.Chart c.args.chart.now) (bits (g.C.Chart.arity c.args.chart.now) e)) c.loop-e.e c.loop-e.entries.items c.loop-e.invariant c.value_at.result c.value_at.ensures
 
 pub returns : goal.returns
 returns g c =
-    let s = c.args.chart.now in
-    let m = g.C.Chart.arity s in
-    let f = chart_function g.C.Chart s in
-    let n = c.assignments-count.result in
-    let inv = c.loop-e.invariant in
-    let few = c.assignments-count.ensures.bound in
+    let t : ℕ → Bool = λ e. value (chart_function g.C.Chart c.args.chart.now) (bits (g.C.Chart.arity c.args.chart.now) e) in
+    let few = c.assignments-e-end.ensures.bound in
+    let n : c.loop-e.e ≡ c.assignments-e-end.result = omega arith in
+    let count = n ∙ c.assignments-e-end.ensures.value ∙ ap (λ m. 2 ^ m) c.count.ensures in
+    let e : c.loop-e.e ≤ 32 = omega arith in
     c.table_of.ensures
-    ∙ row_table (λ k. value f (bits m k)) c.loop-e.entries n (n - 0) few inv.0 (omega arith) (λ k l. inv.1 k (omega arith))
-    ∙ ap (λ k. tabled k (λ e. value f (bits m e))) (c.assignments-count.ensures.value ∙ ap (λ k. 2 ^ k) c.count.ensures)
+    ∙ ap (λ es. tabled (min (length es) 32) (λ k. get_or es k false)) (c.as_slice.ensures.value ∙ c.loop-e.invariant)
+    ∙ table_of_first t c.loop-e.e e
+    ∙ ap (λ k. tabled k t) count

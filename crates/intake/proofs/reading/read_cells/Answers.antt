@@ -1,5 +1,5 @@
-use Rattle.std.proofs.Common.{◌≡◌, ℕ, [], ◌∷◌, ◌++◌, map, sym, ap, ◌∙◌, arith}
-use Rattle.std.proofs.lemmas.List.{map_push}
+use Rattle.std.proofs.Common.{◌≡◌, ℕ, ◌+◌, [], ◌∷◌, ◌++◌, map, length, sym, ap, ◌∙◌, arith}
+use Rattle.std.proofs.lemmas.List.{length_push, map_push}
 use Rattle.frames.specs.Reading.{left}
 use Rattle.frames.proofs.Pages.{onward-some, onward-none, onward-err}
 use Rattle.intake.specs.Views.{listed, cell_of}
@@ -31,7 +31,7 @@ loop-before-preserved c =
     let a = onward-some view c.loop-before.reader.line (then_cells s.inputs s.pins s.bytes m.0 (map view (listed c.loop-before.cells)) (left c.loop-before.reader) c.loop-before.reader.line) m.2 c.in_ok-read_cell.field-0 cell e.answer c.in_ok-cell.ensures.ok_part in
     let l = left-got c.loop-before.invariant.2 m.0 (view cell) (left c.read_cell.new.reader) c.read_cell.new.reader.line m.1 a e.moved.rest e.moved.line in
     let more : map (cell_of s.pins s.bytes) (listed c.push.new.self) ≡ map (cell_of s.pins s.bytes) (listed c.loop-before.cells) ++ (cell_of s.pins s.bytes c.in_ok-cell.cell ∷ []) = ap (map view) c.push.ensures.cells ∙ map_push view (listed c.loop-before.cells) cell in
-    (omega (arith, c.push.ensures.count, c.loop-before.invariant.0), c.push.ensures.inputs ∙ c.loop-before.invariant.1, rw more l)
+    (ap length c.push.ensures.cells ∙ length_push (listed c.loop-before.cells) cell ∙ ap (λ n. n + 1) c.loop-before.invariant.0, c.push.ensures.inputs ∙ c.loop-before.invariant.1, rw more l)
 
 pub returns : goal.returns
 returns c =

@@ -7,4 +7,4 @@ use Rattle.design.proofs.design.Design.left_bit.Given as goal
 abbrev pub invariant-loop-depth : goal.invariant-loop-depth
 invariant-loop-depth g l =
     (inverted g.C.Chart).column l.self.chart l.depth l.place
-    ≡ under (left_of g.C.Chart g.R.CodeRule g.F.CellFamily l.self) (values l.table (take l.depth l.self.live))
+    ≡ under (left_of g.C.Chart g.R.CodeRule g.F.CellFamily l.self) (values l.signals (take l.depth l.self.live))

@@ -1,11 +1,10 @@
-use Rattle.std.proofs.Common.{◌-◌, not, sym, refl, ap, ◌∙◌}
+use Rattle.std.proofs.Common.{not, sym, refl, ap, ◌∙◌}
 use Rattle.std.proofs.lemmas.Bool.{cond-false}
 use Rattle.functions.specs.Functions.{value}
 use Rattle.intake.specs.Networks.{input_bits, yielded, last}
 use Rattle.mapping.specs.declared.answer.Answer.TheVariants.{Shows}
 use Rattle.mapping.specs.States.{values, yield, signals, left_value}
 use Rattle.design.specs.Designs.{seen}
-use Rattle.design.proofs.Growth.{blank-values}
 use Rattle.design.proofs.design.Design.pin.Goals as goal
 
 pub returns : goal.returns
@@ -17,7 +16,7 @@ returns g c =
     record {
       answers = record {
         says =
-            ap (λ b. Shows (not b)) (c.left_bit.ensures ∙ ap (λ t. value s.left (values t s.live)) c.signal_values-table.ensures ∙ ap (value s.left) (blank-values all (48 - d.netlist.count) s.live)
+            ap (λ b. Shows (not b)) (c.left_bit.ensures ∙ ap (λ t. value s.left (values t s.live)) c.signals.ensures
             ∙ sym (cond-false s.closed (last (yielded yield vs s.cells)) (left_value s vs) c.if-self.false));
         leaves = refl;
       };

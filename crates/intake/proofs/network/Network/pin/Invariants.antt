@@ -1,11 +1,11 @@
-use Rattle.std.proofs.Common.{◌≡◌, map, length}
+use Rattle.std.proofs.Common.{◌≡◌, ◌++◌, map, take}
 use Rattle.families.specs.Laws.{meant}
-use Rattle.intake.specs.Networks.{input_bits}
+use Rattle.intake.specs.Networks.{input_bits, yielded, cell_bit}
 use Rattle.intake.specs.Views.{cell_of}
-use Rattle.intake.proofs.Signals.{Yielding}
 use Rattle.intake.proofs.network.Network.pin.Given as goal
 
-abbrev pub invariant-loop-i : goal.invariant-loop-i
-invariant-loop-i g l =
-    (length l.values ≡ 64)
-    × Yielding (meant (g.F.CellFamily.size l.self.family) (g.F.CellFamily.pins l.self.family) (g.F.CellFamily.reads l.self.family)) (input_bits l.inputs) (map (cell_of (g.F.CellFamily.pins l.self.family) (g.F.CellFamily.size l.self.family)) l.cell-items) l.i l.values l.closing
+abbrev pub invariant-loop-cell : goal.invariant-loop-cell
+invariant-loop-cell g l =
+    let K = g.F.CellFamily.pins l.self.family in
+    let size = g.F.CellFamily.size l.self.family in
+    l.signals ≡ input_bits l.inputs ++ yielded (cell_bit (meant size K (g.F.CellFamily.reads l.self.family))) (input_bits l.inputs) (map (cell_of K size) (take l.cell-index l.cell-items))

@@ -1,0 +1,77 @@
+//! The values of the signals of a network.
+
+ghost use Rattle.std.specs.Prelude.{◌≡◌, ◌<◌, ◌≤◌, false, [], ◌∷◌, ◌++◌, map, length, drop, slice_index_or};
+ghost use Rattle.families.specs.Tables.{assignment};
+ghost use Rattle.intake.specs.Networks.{input_bits, last, pin_value};
+
+use bits::bit_of;
+use rows::Row;
+use std::marker::Model;
+
+/// The values of signals: those of the 16 inputs, and then of the cells, of which there are at most 48.
+#[derive(Drop)]
+pub struct Signals {
+    values: Row<bool, 64>,
+}
+
+impl Model for Signals {
+    ghost use Rattle.std.specs.Prelude.{◌≤◌, Bool, List, length};
+
+    ghost Value = { List Bool };
+
+    ghost view = { λ s. s.values.items };
+
+    ghost invariant = { λ s. (16 ≤ length s.values.items) × (length s.values.items ≤ 64) };
+}
+
+impl Signals {
+    /// The signals of the inputs, input i at weight 2^i.
+    pub fn of_inputs(inputs: u16) -> Signals
+        ensures { result ≡ input_bits inputs }
+    {
+        let mut values = Row::new(false);
+        for i in 0..16 {
+            values.push(bit_of(u64::from(inputs), i));
+        }
+        Signals { values }
+    }
+
+    /// One signal more: the bit that the next cell yields.
+    pub fn push(&mut self, bit: bool)
+        requires { length self.old < 64 }
+        ensures { self.new ≡ self.old ++ (bit ∷ []) }
+    {
+        self.values.push(bit);
+    }
+
+    /// The value of a signal, as at a pin: false where there is no such signal, and so at a pin that is not used.
+    pub fn value(&self, signal: u8) -> bool
+        ensures signal { result ≡ slice_index_or self.now signal false }
+        ensures pin { result ≡ pin_value self.now signal }
+    {
+        let values = self.values.as_slice();
+        values.get(usize::from(signal)).copied().unwrap_or(false)
+    }
+
+    /// The bit of the last cell: false where there is none.
+    #[tactic(auto, using(crate::proofs::Closing::closing_bit))]
+    pub fn closing(&self) -> bool
+        ensures { result ≡ last (drop 16 self.now) }
+    {
+        let values = self.values.as_slice();
+        values[16..].last().copied().unwrap_or(false)
+    }
+
+    /// The number of the assignment that signals make, the first most significant.
+    pub fn assignment(&self, signals: &[u8]) -> usize
+        requires { length signals.now ≤ 16 }
+        ensures signals { result ≡ assignment (map (λ s. slice_index_or self.now s false) signals.now) }
+        ensures pins { result ≡ assignment (map (pin_value self.now) signals.now) }
+    {
+        let mut number = 0;
+        for signal in signals {
+            number = 2 * number + usize::from(self.value(*signal));
+        }
+        number
+    }
+}
