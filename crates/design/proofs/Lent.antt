@@ -7,10 +7,10 @@ use Rattle.charts.proofs.ClassLists.{take_min}
 use Rattle.rules.specs.declared.rule.CodeRule as rule
 use Rattle.families.specs.declared.family.CellFamily as family
 use Rattle.mapping.specs.declared.call.Call.{Call}
-use Rattle.mapping.specs.declared.call.Call.TheVariants.{Split, Write}
+use Rattle.mapping.specs.declared.call.Call.TheVariants.{Write}
 use Rattle.mapping.specs.declared.answer.Answer.{Answer}
 use Rattle.design.specs.declared.design.Design.{Design}
-use Rattle.design.specs.Designs.{SplitCall, WriteCall}
+use Rattle.design.specs.Designs.{WriteCall}
 use Rattle.design.specs.Runs.{setting, Does}
 
 module _ {X : Type 0} (xs ys zs : List X) (room n : ℕ) (e : n ≡ min room (length xs)) (long : length ys ≡ n) (is : zs ≡ ys ++ drop n xs) where

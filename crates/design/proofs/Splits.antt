@@ -26,7 +26,7 @@ use Rattle.mapping.specs.States.{state, coded, code_table, split_cells}
 use Rattle.mapping.proofs.Splitting.{some_class, holder-below, coded_from, code_table_from, code_table-negated, split_cells_from}
 use Rattle.design.specs.declared.design.Design.{Design}
 use Rattle.design.specs.declared.netlist.Netlist.{Netlist}
-use Rattle.design.specs.Cells.{seen_cell, cells_of, number_table, code_cells}
+use Rattle.design.specs.Cells.{cells_of, number_table, code_cells}
 use Rattle.design.specs.Designs.{inverted, left_of, seen, Step, SplitCall}
 use Rattle.design.proofs.Swaps.{fits_below}
 

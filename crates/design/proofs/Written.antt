@@ -1,9 +1,8 @@
 -- The bytes of a page.
-use Rattle.std.proofs.Common.{◌≡◌, ℕ, zero, suc, ◌+◌, ◌-◌, ◌<◌, ◌≤◌, min, Bool, true, false, cond, List, [], ◌∷◌, ◌++◌, map, length, get_or, take, drop, set, replicate, Ok, Err, Result, sym, refl, ap, ◌∙◌, inl, inr, arith}
+use Rattle.std.proofs.Common.{◌≡◌, ℕ, zero, suc, ◌+◌, ◌-◌, ◌<◌, ◌≤◌, Bool, true, false, cond, List, [], ◌∷◌, ◌++◌, map, length, get_or, take, drop, replicate, Ok, Err, Result, sym, refl, ap, ◌∙◌, inl, inr, arith}
 use Rattle.std.proofs.lemmas.List.{append_assoc, length-append, length-map, length-take-le, take_at, take-replicate, map_push, map_more, drop-replicate}
 use Rattle.std.proofs.lemmas.Bool.{true≢false}
 use Rattle.charts.specs.declared.chart.Chart as chart
-use Rattle.charts.proofs.ClassLists.{take_min}
 use Rattle.rules.specs.declared.rule.CodeRule as rule
 use Rattle.families.specs.declared.family.CellFamily as family
 use Rattle.families.specs.declared.packing.PackRefusal.{PackRefusal}

@@ -1,4 +1,4 @@
-use Rattle.std.proofs.Common.{◌≡◌, ℕ, ◌≤◌, List, ◌++◌, length, take, drop, replicate, ap, ◌∙◌, sym, arith}
+use Rattle.std.proofs.Common.{ℕ, ◌++◌, length, take, drop, replicate, ap, ◌∙◌, arith}
 use Rattle.std.proofs.lemmas.List.{length-append, length-drop}
 use Rattle.design.proofs.Written.{pins_padded}
 use Rattle.design.proofs.pages.pin_bytes.Goals as goal

@@ -1,4 +1,4 @@
-use Rattle.std.proofs.Common.{◌-◌, not, sym, refl, ap, ◌∙◌}
+use Rattle.std.proofs.Common.{not, sym, refl, ap, ◌∙◌}
 use Rattle.std.proofs.lemmas.Bool.{cond-false}
 use Rattle.functions.specs.Functions.{value}
 use Rattle.intake.specs.Networks.{input_bits, yielded, last}
