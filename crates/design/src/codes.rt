@@ -35,7 +35,7 @@ pub(crate) fn class_numbers<C: Chart>(chart: &C, b: usize, places: &[C::Place]) 
 {
     let mut numbers = Row::new(0);
     for e in 0..assignments(b) {
-        numbers.push(class_at(chart, b, places, e));
+        numbers.push(class_at(chart, b, places, e)).unwrap();
     }
     numbers
 }
@@ -75,7 +75,7 @@ fn code_table<R: CodeRule>(rule: &R, j: usize, t: usize, numbers: &[usize]) -> u
     let mut entries: Row<bool, 32> = Row::new(false);
     let place = place_of(j, t);
     for class in numbers {
-        entries.push(code_bit(rule, j, place, *class));
+        entries.push(code_bit(rule, j, place, *class)).unwrap();
     }
     table_of(entries.as_slice())
 }

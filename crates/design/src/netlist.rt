@@ -48,7 +48,7 @@ impl Netlist {
         ensures cells { cells_of self.new ≡ cells_of self.old ++ (seen_cell cell ∷ []) }
         ensures closed { self.new.closed ≡ self.old.closed }
     {
-        self.cells.push(cell);
+        self.cells.push(cell).unwrap();
     }
 
     /// The closing cell.
@@ -57,7 +57,7 @@ impl Netlist {
         ensures cells { cells_of self.new ≡ cells_of self.old ++ (seen_cell cell ∷ []) }
         ensures closed { self.new.closed ≡ true }
     {
-        self.cells.push(cell);
+        self.cells.push(cell).unwrap();
         self.closed = true;
     }
 
@@ -67,7 +67,7 @@ impl Netlist {
     {
         let mut signals = Signals::of_inputs(inputs);
         for cell in self.cells.as_slice() {
-            signals.push(cell.bit(&signals));
+            signals.push(cell.bit(&signals)).unwrap();
         }
         signals
     }

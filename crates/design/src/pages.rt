@@ -60,9 +60,9 @@ fn sealed_cell(pins: &[u8], config: &[u8]) -> Frame
     ensures { body result ≡ sealed (0x12 ∷ (pins.now ++ config.now)) }
 {
     let mut content: Row<u8, 23> = Row::new(0);
-    content.push(u8::from(Kind::Cell));
-    content.extend_from_slice(pins);
-    content.extend_from_slice(config);
+    content.push(u8::from(Kind::Cell)).unwrap();
+    content.extend_from_slice(pins).unwrap();
+    content.extend_from_slice(config).unwrap();
     Frame::sealed(content.as_slice()).unwrap()
 }
 
@@ -105,9 +105,9 @@ impl<C: Chart, R: CodeRule, F: CellFamily> Design<C, R, F> {
         }
         let heading = self.heading();
         let mut frames: Row<Frame, 49> = Row::new(heading);
-        frames.push(heading);
+        frames.push(heading).unwrap();
         for cell in self.netlist.cells.as_slice() {
-            frames.push(frame_of(&self.family, cell));
+            frames.push(frame_of(&self.family, cell)).unwrap();
         }
         Ok(write_frames(frames.as_slice(), out)?)
     }

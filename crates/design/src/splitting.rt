@@ -30,7 +30,7 @@ pub(crate) fn first_signals(live: &[u8; 16], b: usize) -> Row<u8, 5>
     ensures { result.items ≡ take b live.now }
 {
     let mut pins = Row::new(0);
-    pins.extend_from_slice(&live[..b]);
+    pins.extend_from_slice(&live[..b]).unwrap();
     pins
 }
 

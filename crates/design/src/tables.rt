@@ -34,7 +34,7 @@ pub(crate) fn function_table<C: Chart>(chart: &C) -> u32
 {
     let mut entries: Row<bool, 32> = Row::new(false);
     for e in 0..assignments(chart.count()) {
-        entries.push(value_at(chart, e));
+        entries.push(value_at(chart, e)).unwrap();
     }
     table_of(entries.as_slice())
 }

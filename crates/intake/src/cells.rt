@@ -47,6 +47,6 @@ impl Cells {
         ensures cells { listed self.new ≡ listed self.old ++ (cell ∷ []) }
         ensures inputs { self.new.inputs ≡ self.old.inputs }
     {
-        self.cells.push(cell);
+        self.cells.push(cell).unwrap();
     }
 }

@@ -79,7 +79,7 @@ impl<F: CellFamily> Network<F> {
     {
         let mut signals = Signals::of_inputs(inputs);
         for cell in self.cells.as_slice() {
-            signals.push(cell.bit(&self.family, &signals));
+            signals.push(cell.bit(&self.family, &signals)).unwrap();
         }
         !signals.closing()
     }

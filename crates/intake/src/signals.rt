@@ -1,11 +1,11 @@
 //! The values of the signals of a network.
 
-ghost use Rattle.std.specs.Prelude.{◌≡◌, ◌<◌, ◌≤◌, false, [], ◌∷◌, ◌++◌, map, length, drop, slice_index_or};
+ghost use Rattle.std.specs.Prelude.{◌≡◌, ◌<◌, ◌≤◌, ◌↔◌, false, [], ◌∷◌, ◌++◌, map, length, take, drop, IsOk, OnOk, OnErr, slice_index_or};
 ghost use Rattle.families.specs.Tables.{assignment};
 ghost use Rattle.intake.specs.Networks.{input_bits, last, pin_value};
 
 use bits::bit_of;
-use rows::Row;
+use rows::{Full, Row};
 use std::marker::Model;
 
 /// The values of signals: those of the 16 inputs, and then of the cells, of which there are at most 48.
@@ -31,17 +31,18 @@ impl Signals {
     {
         let mut values = Row::new(false);
         for i in 0..16 {
-            values.push(bit_of(u64::from(inputs), i));
+            values.push(bit_of(u64::from(inputs), i)).unwrap();
         }
         Signals { values }
     }
 
-    /// One signal more: the bit that the next cell yields.
-    pub fn push(&mut self, bit: bool)
-        requires { length self.old < 64 }
-        ensures { self.new ≡ self.old ++ (bit ∷ []) }
+    /// One signal more: the bit that the next cell yields. No signal comes after the 64th.
+    pub fn push(&mut self, bit: bool) -> Result<(), Full>
+        ensures variant { IsOk result ↔ (length self.old < 64) }
+        ensures ok { OnOk result (self.new ≡ self.old ++ (bit ∷ [])) }
+        ensures err { OnErr result (self.new ≡ self.old) }
     {
-        self.values.push(bit);
+        self.values.push(bit)
     }
 
     /// The value of a signal, as at a pin: false where there is no such signal, and so at a pin that is not used.
@@ -62,8 +63,8 @@ impl Signals {
         values[16..].last().copied().unwrap_or(false)
     }
 
-    /// The number of the assignment that signals make, the first most significant.
-    pub fn assignment(&self, signals: &[u8]) -> usize
+    /// The number of the assignment that at most 16 signals make, the first most significant.
+    fn number_of(&self, signals: &[u8]) -> usize
         requires { length signals.now ≤ 16 }
         ensures signals { result ≡ assignment (map (λ s. slice_index_or self.now s false) signals.now) }
         ensures pins { result ≡ assignment (map (pin_value self.now) signals.now) }
@@ -73,5 +74,13 @@ impl Signals {
             number = 2 * number + usize::from(self.value(*signal));
         }
         number
+    }
+
+    /// The number of the assignment that the first 16 of some signals make, the first most significant.
+    pub fn assignment(&self, signals: &[u8]) -> usize
+        ensures signals { result ≡ assignment (map (λ s. slice_index_or self.now s false) (take 16 signals.now)) }
+        ensures pins { result ≡ assignment (map (pin_value self.now) (take 16 signals.now)) }
+    {
+        self.number_of(&signals[..signals.len().min(16)])
     }
 }

@@ -3,4 +3,4 @@
 
 mod row;
 
-pub use row::Row;
+pub use row::{Full, Row};

@@ -1,8 +1,12 @@
 //! A row.
 
-ghost use Rattle.std.specs.Prelude.{◌≡◌, ◌+◌, ◌<◌, ◌≤◌, [], ◌∷◌, ◌++◌, length};
+ghost use Rattle.std.specs.Prelude.{◌≡◌, ◌+◌, ◌<◌, ◌≤◌, ◌↔◌, [], ◌∷◌, ◌++◌, length, IsOk, OnOk, OnErr};
 
 use std::marker::Model;
+
+/// There is no room for what was to come behind the others.
+#[derive(Clone, Copy, PartialEq, Eq, Debug)]
+pub struct Full;
 
 /// A list of at most `N` elements, in an array.
 #[derive(Clone, Copy)]
@@ -49,23 +53,33 @@ impl<T: Copy, const N: usize> Row<T, N> {
         &self.slots[..self.len]
     }
 
-    /// Puts an element behind the others.
-    pub fn push(&mut self, item: T)
-        requires { length self.old.items < N }
-        ensures { self.new.items ≡ self.old.items ++ (item ∷ []) }
+    /// Puts an element behind the others. A full row is as it was.
+    pub fn push(&mut self, item: T) -> Result<(), Full>
+        ensures variant { IsOk result ↔ (length self.old.items < N) }
+        ensures ok { OnOk result (self.new.items ≡ self.old.items ++ (item ∷ [])) }
+        ensures err { OnErr result (self.new ≡ self.old) }
     {
+        if self.len == N {
+            return Err(Full);
+        }
         self.slots[self.len] = item;
         self.len += 1;
+        Ok(())
     }
 
-    /// Puts elements behind the others.
-    pub fn extend_from_slice(&mut self, items: &[T])
-        requires { length self.old.items + length items.now ≤ N }
-        ensures { self.new.items ≡ self.old.items ++ items.now }
+    /// Puts elements behind the others. A row without room for all of them is as it was.
+    pub fn extend_from_slice(&mut self, items: &[T]) -> Result<(), Full>
+        ensures variant { IsOk result ↔ (length self.old.items + length items.now ≤ N) }
+        ensures ok { OnOk result (self.new.items ≡ self.old.items ++ items.now) }
+        ensures err { OnErr result (self.new ≡ self.old) }
     {
+        if items.len() > N - self.len {
+            return Err(Full);
+        }
         let end = self.len + items.len();
         let slots = &mut self.slots[..];
         slots[self.len..end].copy_from_slice(items);
         self.len = end;
+        Ok(())
     }
 }

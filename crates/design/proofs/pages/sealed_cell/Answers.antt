@@ -1,4 +1,5 @@
 use Rattle.std.proofs.Common.{[], ◌∷◌, ◌++◌, ap, ◌∙◌}
+use Rattle.std.proofs.lemmas.Result.{IfOk-at_ok}
 use Rattle.frames.specs.Text.{sealed}
 use Rattle.design.proofs.pages.sealed_cell.Goals as goal
 
@@ -8,8 +9,8 @@ returns c =
     let cs = c.args.config.now in
     let content =
     c.as_slice.ensures.value
-    ∙ c.extend_from_slice-2.ensures
-    ∙ ap (λ xs. xs ++ cs) (c.extend_from_slice.ensures ∙ ap (λ xs. xs ++ ps) (c.push.ensures ∙ ap (λ xs. xs ++ (c.byte.result ∷ [])) c.new-content.ensures ∙ ap (λ k. k ∷ []) c.byte.ensures)) in
+    ∙ IfOk-at_ok _ c.unwrap-3.ensures c.extend_from_slice-2.ensures.ok
+    ∙ ap (λ xs. xs ++ cs) (IfOk-at_ok _ c.unwrap-2.ensures c.extend_from_slice.ensures.ok ∙ ap (λ xs. xs ++ ps) (IfOk-at_ok _ c.unwrap.ensures c.push.ensures.ok ∙ ap (λ xs. xs ++ (c.byte.result ∷ [])) c.new-content.ensures ∙ ap (λ k. k ∷ []) c.byte.ensures)) in
     let h = c.sealed.ensures in
-    let s = rw c.unwrap.ensures at h in
+    let s = rw c.unwrap-4.ensures at h in
     s.2 ∙ ap sealed content

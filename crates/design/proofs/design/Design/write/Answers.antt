@@ -1,6 +1,6 @@
-use Rattle.std.proofs.Common.{[], ◌∷◌, ◌++◌, map, lit<, ap, ◌∙◌, arith}
+use Rattle.std.proofs.Common.{[], ◌∷◌, ◌++◌, map, ap, ◌∙◌, arith}
 use Rattle.std.proofs.lemmas.List.{take_all}
-use Rattle.std.proofs.lemmas.Result.{err_from_is_err_and}
+use Rattle.std.proofs.lemmas.Result.{IfOk-at_ok, err_from_is_err_and}
 use Rattle.frames.specs.Outcome.{body}
 use Rattle.frames.specs.Text.{text}
 use Rattle.intake.specs.Written.{heading_frame, cell_frame}
@@ -13,21 +13,21 @@ use Rattle.design.proofs.design.Design.write.Goals as goal
 pub returns-then-not-self : goal.returns-then-not-self
 returns-then-not-self g c = write_open g.C.Chart g.R.CodeRule g.F.CellFamily c.args.self.now c.args.out.now c.if-not-self.true
 
-pub push-requires-in-loop-cell : goal.push-requires-in-loop-cell
-push-requires-in-loop-cell g c =
+pub unwrap-requires-in-loop-cell : goal.unwrap-requires-in-loop-cell
+unwrap-requires-in-loop-cell g c =
     let fa = g.F.CellFamily in
     let d = c.args.self.now in
     let n = frames_count (λ x. cell_frame (configured (fa.pins d.family) (fa.packed d.family) (seen_cell x))) c.loop-cell.frames.items c.as_slice-cell-items.result.now (heading_frame (fa.number d.family) (network_seen g.C.Chart g.R.CodeRule fa d) ∷ []) c.loop-cell.cell-index (omega arith) c.loop-cell.invariant in
-    (lit< tt, omega (arith, c.as_slice-cell-items.ensures.few))
+    c.push-in-loop-cell.ensures.variant.1 (omega (arith, c.as_slice-cell-items.ensures.few))
 
 pub loop-cell-init : goal.loop-cell-init
-loop-cell-init g c = ap (map body) (c.push.ensures ∙ ap (λ fs. fs ++ (c.heading-heading.result ∷ [])) c.new-frames.ensures) ∙ ap (λ h. h ∷ []) c.heading-heading.ensures
+loop-cell-init g c = ap (map body) (IfOk-at_ok _ c.unwrap.ensures c.push.ensures.ok ∙ ap (λ fs. fs ++ (c.heading-heading.result ∷ [])) c.new-frames.ensures) ∙ ap (λ h. h ∷ []) c.heading-heading.ensures
 
 pub loop-cell-preserved : goal.loop-cell-preserved
 loop-cell-preserved g c =
     let fa = g.F.CellFamily in
     let d = c.args.self.now in
-    ap (map body) c.push-in-loop-cell.ensures
+    ap (map body) (IfOk-at_ok _ c.unwrap-in-loop-cell.ensures c.push-in-loop-cell.ensures.ok)
     ∙ frames_more (λ x. cell_frame (configured (fa.pins d.family) (fa.packed d.family) (seen_cell x))) c.loop-cell.frames.items c.as_slice-cell-items.result.now (heading_frame (fa.number d.family) (network_seen g.C.Chart g.R.CodeRule fa d) ∷ []) c.loop-cell.cell-index c.cell-item.result c.frame_of.result
     c.loop-cell-test.true c.loop-cell.invariant (c.frame_of.ensures ∙ ap (λ x. cell_frame (configured (fa.pins d.family) (fa.packed d.family) (seen_cell x))) c.cell-item.is)
 

@@ -1,7 +1,7 @@
 use Rattle.std.proofs.Common.{◌≡◌, false, map, take, slice_index_or}
 use Rattle.families.specs.Tables.{assignment}
 use Rattle.intake.specs.Networks.{pin_value}
-use Rattle.intake.proofs.signals.Signals.assignment.Given as goal
+use Rattle.intake.proofs.signals.Signals.number_of.Given as goal
 
 abbrev pub invariant-loop-signal : goal.invariant-loop-signal
 invariant-loop-signal l =

@@ -4,7 +4,7 @@ use Rattle.std.proofs.lemmas.List.{length-map, length-take-le, map_more}
 use Rattle.families.specs.Tables.{assignment}
 use Rattle.families.proofs.Assignments.{assignment-below, assignment-append}
 use Rattle.intake.specs.Networks.{pin_value}
-use Rattle.intake.proofs.signals.Signals.assignment.Goals as goal
+use Rattle.intake.proofs.signals.Signals.number_of.Goals as goal
 
 -- the signals before a place, by their values
 module _ (value : ℕ → Bool) (ps : List ℕ) (i n : ℕ) (h : i < length ps) (few : length ps ≤ 16) (is : n ≡ assignment (map value (take i ps))) where
