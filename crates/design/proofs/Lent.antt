@@ -3,7 +3,7 @@ use Rattle.std.proofs.Common.{◌≡◌, ℕ, min, List, ◌++◌, length, take,
 use Rattle.std.proofs.lemmas.List.{append-nil, take_at, drop_at, take_all, drop_all}
 use Rattle.std.proofs.lemmas.Bool.{cases_lt}
 use Rattle.charts.specs.declared.chart.Chart as chart
-use Rattle.charts.proofs.ClassLists.{take_min}
+use Rattle.std.proofs.lemmas.List.{take_min}
 use Rattle.rules.specs.declared.rule.CodeRule as rule
 use Rattle.families.specs.declared.family.CellFamily as family
 use Rattle.mapping.specs.declared.call.Call.{Call}
