@@ -1,9 +1,10 @@
 -- Lists of places, one for each class: looking for a class, and one place more.
-use Rattle.std.proofs.Common.{◌≡◌, ℕ, zero, suc, ◌+◌, ◌-◌, ◌<◌, ◌≤◌, min, List, [], ◌∷◌, ◌++◌, map, length, take, drop, cond, ltb, Some, None, Option, refl, sym, ap, ◌∙◌, inl, inr, add-one, arith}
-use Rattle.std.proofs.lemmas.List.{append_assoc, length-append, length-drop, length-map, length_push, length-take-le, take-append-drop, take_all, take_at, drop-drop, set_split, map_push}
+use Rattle.std.proofs.Common.{◌≡◌, ℕ, zero, suc, ◌+◌, ◌-◌, ◌<◌, ◌≤◌, List, [], ◌∷◌, ◌++◌, map, length, take, drop, cond, ltb, Some, None, Option, refl, sym, ap, ◌∙◌, inl, inr, add-one, arith}
+use Rattle.std.proofs.lemmas.List.{append_assoc, length-append, length-drop, length-map, length_push, length-take-le, take-append-drop, take_at, drop-drop, set_split, map_push}
 use Rattle.std.specs.List.{position, position_or_len}
 use Rattle.std.proofs.lemmas.List.Recursion.{is_position_or_len}
-use Rattle.std.proofs.lemmas.Bool.{lt-ltb, cases_Bool, cases_lt}
+use Rattle.std.proofs.Math.Seq.{drop-append-add}
+use Rattle.std.proofs.lemmas.Bool.{lt-ltb, cases_Bool}
 use Rattle.std.proofs.lemmas.Bool.Decides.{nat_tests}
 use Rattle.functions.specs.Functions.{Fn}
 use Rattle.functions.specs.Classes.{same_fn, among, place_of, noted}
@@ -35,12 +36,6 @@ module _ {P : Type 0} (mean : P → Fn) (p : P) where
         | inr t ↦ rw (e, ← here, t) t
       ]
 
-pub take_min : {P : Type 0} (n : ℕ) (xs : List P) → take (min n (length xs)) xs ≡ take n xs
-take_min n xs = elim (cases_lt n (length xs)) [
-  | inl h ↦ let e : min n (length xs) ≡ n = omega arith in rw e
-  | inr h ↦ let e : min n (length xs) ≡ length xs = omega arith in rw e (take_all (length xs) xs (omega arith) ∙ sym (take_all n xs h))
-]
-
 -- ---- places at the front of a strip
 
 pub take-laid : {P : Type 0} (ps zs : List P) (n : ℕ) → n ≡ length ps → take n (laid ps zs) ≡ ps
@@ -49,16 +44,12 @@ take-laid ps zs n e = take_at ps (drop (length ps) zs) n (sym e)
 length-laid : {P : Type 0} (ps zs : List P) → length ps ≤ length zs → length (laid ps zs) ≡ length zs
 length-laid ps zs h = rw (length-append, length-drop) (omega arith)
 
-drop_past : {P : Type 0} (xs ys : List P) (k : ℕ) → drop (length xs + k) (xs ++ ys) ≡ drop k ys
-drop_past [] ys k = let e : 0 + k ≡ k = omega arith in rw e
-drop_past (x ∷ xs) ys k = let e : suc (length xs) + k ≡ suc (length xs + k) = omega arith in rw e (drop_past xs ys k)
-
 -- a longer list over a shorter one
 laid-laid : {P : Type 0} (ps qs zs : List P) → length ps ≤ length qs → laid qs (laid ps zs) ≡ laid qs zs
 laid-laid ps qs zs h =
     let k : length ps + (length qs - length ps) ≡ length qs = omega arith in
     ap (λ rest. qs ++ rest)
-    (ap (λ n. drop n (laid ps zs)) (sym k) ∙ drop_past ps (drop (length ps) zs) (length qs - length ps) ∙ drop-drop (length qs - length ps) (length ps) zs ∙ ap (λ n. drop n zs) k)
+    (ap (λ n. drop n (laid ps zs)) (sym k) ∙ drop-append-add ps (drop (length ps) zs) (length qs - length ps) ∙ drop-drop (length qs - length ps) (length ps) zs ∙ ap (λ n. drop n zs) k)
 
 -- ---- one place more
 

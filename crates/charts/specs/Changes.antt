@@ -2,6 +2,7 @@
 use Rattle.std.specs.Prelude.{◌≡◌, ℕ, ◌+◌, ◌-◌, ◌^◌, ◌<◌, ◌≤◌, ◌⊎◌, ◌↔◌, List, map, length, Ok, Err, Result, slice_index}
 use Rattle.functions.specs.Functions.{Fn, exchanged, recoded}
 use Rattle.charts.specs.Refusals.{refusal_number}
+use Rattle.charts.specs.declared.chart.Recoding.{Recoding}
 use Rattle.charts.specs.declared.refusal.ChartRefusal.{ChartRefusal}
 
 -- the function that a chart means: the column of its root
@@ -36,6 +37,10 @@ pub record Recodable (m b j places : ℕ) (class_of : List ℕ) : Type 0 where
   pub small : m - b + j ≤ 16
   pub coded : 2 ^ j ≤ length class_of
   pub placed : (q : ℕ) → q < 2 ^ j → slice_index class_of q < places
+
+-- a function of m arguments can be recoded so
+abbrev pub IsInRange : {P : Type 0} → ℕ → Recoding P → Type 0
+IsInRange m recoding = Recodable m recoding.bound recoding.codes (length recoding.places.now) recoding.class_of.now
 
 -- the first b arguments replaced by j, whose code chooses the column of its class's place
 abbrev pub Recode : {C P U : Type 0} → (C → ℕ) → (C → ℕ → P → Fn) → (C → P) → (C → Fn → Type 0) → ℕ → ℕ → List P → List ℕ → C → C → Result U ChartRefusal → Type 0

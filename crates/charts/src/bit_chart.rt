@@ -1,6 +1,6 @@
 ghost use Rattle.std.specs.Prelude.{◌≡◌, ℕ, ◌+◌, ◌-◌, ◌^◌, ◌<◌, ◌≤◌, false, length, Decides, slice_index_or};
 ghost use Rattle.functions.specs.Functions.{bit};
-ghost use Rattle.charts.specs.Changes.{Recodable};
+ghost use Rattle.charts.specs.Changes.{IsInRange};
 ghost use Rattle.charts.specs.Stretches.{there, entry_of, stretch_column, all_of, onward};
 ghost use Rattle.charts.specs.Tables.{Filled, source_of, exchanged_entry, row_entry};
 
@@ -118,6 +118,7 @@ impl BitChart {
         self.entry(depth, a, i) == self.entry(depth, b, i)
     }
 
+    #[tactic(auto, using(crate::proofs::Stretches::table_size))]
     /// The entry `i` once the arguments of weight 2^(`k` + 1) and 2^`k` are exchanged.
     fn exchanged_entry(&self, k: usize, i: usize) -> bool
         requires two { k + 2 ≤ self.now.count }
@@ -137,7 +138,7 @@ impl BitChart {
 
     /// The entry `x` of the recoded table: the row of a code is the place of its class.
     fn row_entry(&self, recoding: &Recoding<Stretch>, x: usize) -> bool
-        requires ready { Recodable self.now.count recoding.now.bound recoding.now.codes (length recoding.now.places.now) recoding.now.class_of.now }
+        requires ready { IsInRange self.now.count recoding.now }
         requires inside { x < 2 ^ (self.now.count - recoding.now.bound + recoding.now.codes) }
         ensures { result ≡ row_entry self.now.count self.now.table (self.now.count - recoding.now.bound) recoding.now.places.now recoding.now.class_of.now x }
     {
@@ -149,7 +150,7 @@ impl BitChart {
     #[tactic(auto, using(crate::proofs::Stretches::table_size))]
     /// The recoded table, one row for each code.
     fn rows(&self, recoding: &Recoding<Stretch>) -> [bool; ENTRIES]
-        requires ready { Recodable self.now.count recoding.now.bound recoding.now.codes (length recoding.now.places.now) recoding.now.class_of.now }
+        requires ready { IsInRange self.now.count recoding.now }
         requires small { self.now.count - recoding.now.bound + recoding.now.codes ≤ 12 }
         ensures { Filled (2 ^ (self.now.count - recoding.now.bound + recoding.now.codes)) (row_entry self.now.count self.now.table (self.now.count - recoding.now.bound) recoding.now.places.now recoding.now.class_of.now) result }
     {

@@ -1,8 +1,8 @@
-ghost use Rattle.std.specs.Prelude.{◌≡◌, ℕ, Bool, Decides, length};
+ghost use Rattle.std.specs.Prelude.{◌≡◌, ℕ, Bool, Decides};
 ghost use Rattle.functions.specs.Functions.{Fn, bit};
 ghost use Rattle.functions.specs.Classes.{same_fn};
 ghost use Rattle.charts.specs.Laws.{Laws};
-ghost use Rattle.charts.specs.Changes.{Recodable, Swap, Recode};
+ghost use Rattle.charts.specs.Changes.{IsInRange, Swap, Recode};
 
 use super::refusal::ChartRefusal;
 use bits::power;
@@ -80,7 +80,7 @@ pub struct Recoding<'a, P> {
 impl<'a, P> Recoding<'a, P> {
     /// Whether a function of `m` arguments can be recoded so.
     pub fn in_range(&self, m: usize) -> bool
-        ensures { Decides result (Recodable m self.now.bound self.now.codes (length self.now.places.now) self.now.class_of.now) }
+        ensures { Decides result (IsInRange m self.now) }
     {
         let (b, j) = (self.bound, self.codes);
         if b > m || j > 4 || m - b > 16 - j || self.class_of.len() < power(j) {

@@ -1,4 +1,4 @@
-ghost use Rattle.std.specs.Prelude.{◌≡◌, ◌<◌, length, take, slice_set};
+ghost use Rattle.std.specs.Prelude.{◌≡◌, take};
 ghost use Rattle.charts.specs.ClassLists.{Found, Noted};
 
 use super::chart::Chart;

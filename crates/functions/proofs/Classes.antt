@@ -1,6 +1,6 @@
 -- Places of functions in a list, and the classes of a list.
 use Rattle.std.proofs.Common.{◌≡◌, ℕ, zero, suc, ◌+◌, ◌-◌, ◌^◌, ◌<◌, ◌≤◌, Bool, true, false, ◌||◌, ◌↔◌, List, [], ◌∷◌, ◌++◌, length, get_or, take, Decides, sym, refl, ap, ◌∙◌, subst, inl, inr, arith}
-use mathlib.Core.Bool.{false≢true}
+use mathlib.Core.Bool.{false≢true, or-false}
 use Rattle.std.specs.List.{ContainsAt as Has, AllByRecursion as All}
 use Rattle.std.proofs.ByRecursion.{All-from_get_or, all-has, has_get_or}
 use Rattle.std.proofs.lemmas.List.{append_assoc, append-nil, length_push, get_or_append_left, get_or_push, get_or_default}
@@ -14,10 +14,6 @@ use Rattle.functions.proofs.Values.{same-sound, same_self}
 use Rattle.functions.proofs.Columns.{length_columns, column_at, column_of, arity_columns}
 
 -- ---- one of the functions, or none
-
-or-false : (b : Bool) → (b || false) ≡ b
-or-false false = refl
-or-false true = refl
 
 pub among_push : (f : Fn) (gs : List Fn) (g : Fn) → among f (gs ++ (g ∷ [])) ≡ (among f gs || same_fn g f)
 among_push f [] g = or-false (same_fn g f)

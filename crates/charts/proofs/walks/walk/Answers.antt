@@ -5,9 +5,6 @@ use Rattle.charts.specs.Walks.{reached}
 use Rattle.charts.proofs.Meanings.{led-stays, reached-means}
 use Rattle.charts.proofs.walks.walk.Goals as goal
 
-pub loop-depth-init : goal.loop-depth-init
-loop-depth-init g c = let none : c.args.b - 0 ≡ c.args.b = omega arith in rw (none, c.top-place.ensures)
-
 pub returns : goal.returns
 returns g c =
     let ch = g.C.Chart in

@@ -1,17 +1,8 @@
-use Rattle.std.proofs.Common.{◌≡◌, ◌^◌, ap, ◌∙◌, arith, pow_pos}
+use Rattle.std.proofs.Common.{◌≡◌, ◌^◌, ap, ◌∙◌, arith}
 use Rattle.charts.specs.Tables.{source_of}
 use Rattle.charts.proofs.Stretches.{table_size}
 use Rattle.charts.proofs.Exchanges.{source_below}
 use Rattle.charts.proofs.bit_chart.BitChart.exchanged_entry.Goals as goal
-
-pub source-requires : goal.source-requires
-source-requires c =
-    let s = c.args.self.now in
-    let small = s.small in
-    let h = c.power.ensures.within (omega arith) in
-    let size = table_size s.count small in
-    let part = table_size c.args.k (omega arith) in
-    record { some = omega (arith, pow_pos c.args.k); small = omega arith; inside = omega arith }
 
 pub bounds-self-source : goal.bounds-self-source
 bounds-self-source c =
