@@ -6,26 +6,19 @@ mod tests {
     use charts::{Chart, ChartRefusal, Recoding, number_classes, walk};
     use nodes::NodeChart;
 
-    fn number(r: Result<(), ChartRefusal>) -> u8 {
-        match r {
-            Ok(_) => 0,
-            Err(e) => e.number(),
-        }
-    }
-
     fn recode(
         chart: &mut NodeChart,
         bound: usize,
         codes: usize,
         places: &[usize],
         class_of: &[usize],
-    ) -> u8 {
-        number(chart.recode(&Recoding {
+    ) -> Result<(), ChartRefusal> {
+        chart.recode(&Recoding {
             bound,
             codes,
             places,
             class_of,
-        }))
+        })
     }
 
     fn value_at(chart: &NodeChart, a: usize) -> bool {
@@ -33,7 +26,7 @@ mod tests {
     }
 
     // Two arguments more in front: 1 where both are 1, and else what the chart means.
-    fn with_a_pair(chart: &mut NodeChart) -> u8 {
+    fn with_a_pair(chart: &mut NodeChart) -> Result<(), ChartRefusal> {
         let top = chart.top();
         recode(chart, 0, 2, &[top, 1], &[0, 0, 0, 1])
     }
@@ -43,13 +36,13 @@ mod tests {
     fn the_order_decides_the_size(rt: HostRuntime) {
         let mut chart = NodeChart::empty();
         for _ in 0..3 {
-            assert_eq!(rt; with_a_pair(&mut chart), 0);
+            assert_eq!(rt; with_a_pair(&mut chart), Ok(()));
         }
         assert_eq!(rt; chart.size(), 6);
         assert!(rt; value_at(&chart, 48) && value_at(&chart, 3) && !value_at(&chart, 42));
-        assert_eq!(rt; number(chart.swap(1)), 0);
-        assert_eq!(rt; number(chart.swap(3)), 0);
-        assert_eq!(rt; number(chart.swap(2)), 0);
+        assert_eq!(rt; chart.swap(1), Ok(()));
+        assert_eq!(rt; chart.swap(3), Ok(()));
+        assert_eq!(rt; chart.swap(2), Ok(()));
         assert_eq!(rt; chart.size(), 14);
         assert!(rt; value_at(&chart, 36) && value_at(&chart, 9) && !value_at(&chart, 56));
     }
@@ -59,13 +52,13 @@ mod tests {
     fn the_comparison(rt: HostRuntime) {
         let mut chart = NodeChart::empty();
         let equal = [1, 0, 0, 0, 0, 1, 0, 0, 0, 0, 1, 0, 0, 0, 0, 1];
-        assert_eq!(rt; recode(&mut chart, 0, 4, &[0, 1], &equal), 0);
+        assert_eq!(rt; recode(&mut chart, 0, 4, &[0, 1], &equal), Ok(()));
         assert_eq!(rt; chart.size(), 9);
         let mut strip = [0; 4];
         assert_eq!(rt; number_classes(&chart, 2, &mut strip), Some(4));
-        assert_eq!(rt; number(chart.swap(3)), 11);
-        assert_eq!(rt; number(chart.swap(usize::MAX)), 11);
-        assert_eq!(rt; number(chart.swap(1)), 0);
+        assert_eq!(rt; chart.swap(3), Err(ChartRefusal::OutOfRange));
+        assert_eq!(rt; chart.swap(usize::MAX), Err(ChartRefusal::OutOfRange));
+        assert_eq!(rt; chart.swap(1), Ok(()));
         assert_eq!(rt; chart.size(), 6);
         assert_eq!(rt; number_classes(&chart, 2, &mut strip), Some(2));
     }
@@ -74,14 +67,20 @@ mod tests {
     #[test]
     fn strange_places(rt: HostRuntime) {
         let mut chart = NodeChart::empty();
-        assert_eq!(rt; with_a_pair(&mut chart), 0);
+        assert_eq!(rt; with_a_pair(&mut chart), Ok(()));
         let top = chart.top();
         assert!(rt; chart.same(1, top, 0) && !chart.same(0, top, 0));
         assert!(rt; chart.same(0, usize::MAX, 0) && chart.same(usize::MAX, 77, 0));
         assert_eq!(rt; chart.step(0, usize::MAX, true), 0);
         assert_eq!(rt; chart.step(2, 77, true), 77);
         assert!(rt; !chart.end(77) && chart.end(1));
-        assert_eq!(rt; recode(&mut chart, 3, 0, &[0], &[0]), 11);
-        assert_eq!(rt; recode(&mut chart, 0, 1, &[0], &[0, 1]), 11);
+        assert_eq!(rt;
+            recode(&mut chart, 3, 0, &[0], &[0]),
+            Err(ChartRefusal::OutOfRange)
+        );
+        assert_eq!(rt;
+            recode(&mut chart, 0, 1, &[0], &[0, 1]),
+            Err(ChartRefusal::OutOfRange)
+        );
     }
 }

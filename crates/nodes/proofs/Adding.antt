@@ -10,7 +10,7 @@ use Rattle.nodes.specs.declared.store.Store.{Store}
 use Rattle.nodes.specs.declared.store.Full.{Full}
 use Rattle.nodes.specs.Diagrams.{at, blank, level, Ordered, Proper, Single}
 use Rattle.nodes.specs.Stores.{Absent, Did, dropped, there, pushed}
-use Rattle.nodes.specs.Drafts.{below, in_place, same_node, among, fits, misplaced, repeated, verdict}
+use Rattle.nodes.specs.Drafts.{below, in_place, same_node, among, fits, repeated, verdict}
 use Rattle.nodes.proofs.Canonical.{same}
 use Rattle.nodes.proofs.Indexes.{at_old, at_new}
 use Rattle.nodes.proofs.Grown.{Agree, Above, level-agree, ordered_grown, reduced_grown, front-agree}
@@ -71,10 +71,7 @@ module _ (xs : List Node) (c : ℕ) (room : c ≤ length xs) where
         absurd (none (k + 2) (omega arith) (omega arith) (sym (front-agree xs c room (k + 2) (omega arith) (omega arith)) ∙ ap (λ (j : ℕ). get_or (take c xs) j blank) i ∙ w.2 blank))
   ]
 
--- the three verdicts
-pub verdict-misplaced : (m : ℕ) (ys : List Node) (y : Node) → in_place m ys y ≡ false → verdict m ys y ≡ misplaced
-verdict-misplaced m ys y e = cond-false _ _ _ e
-
+-- the verdicts on a node in its place
 verdict-repeated : (m : ℕ) (ys : List Node) (y : Node) → in_place m ys y ≡ true → (eqb y.low y.high || among y ys) ≡ true → verdict m ys y ≡ repeated
 verdict-repeated m ys y e d = cond-true _ _ _ e ∙ cond-true _ _ _ d
 

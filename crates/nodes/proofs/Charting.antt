@@ -120,14 +120,13 @@ code_room j h = pow_mono h
 -- the codes' leaves, whose numbers are in front in a list of 16
 pub record Coded (f : ℕ → ℕ) (class_of : List ℕ) (j : ℕ) (leaves : List ℕ) : Type 0 where
   pub many : length leaves ≡ 2 ^ j
-  pub few : length leaves ≤ 16
   pub each : (q : ℕ) → q < length leaves → get_or leaves q 0 ≡ f (get_or class_of q 0)
 
 pub coded : (f : ℕ → ℕ) (class_of : List ℕ) (j w : ℕ) → w ≡ 2 ^ j → j ≤ 4 → (leaves : List ℕ) → length leaves ≡ 16 → ((q : ℕ) → q < 2 ^ j → get_or leaves q 0 ≡ f (get_or class_of q 0)) → Coded f class_of j (take w leaves)
 coded f class_of j w we jl leaves len each =
     let room = code_room j jl in
     let long = length-take-le w leaves (omega arith) in
-    record { many = long ∙ we; few = omega arith; each = λ q less. get_or-take w leaves q 0 (omega arith) ∙ each q (omega arith) }
+    record { many = long ∙ we; each = λ q less. get_or-take w leaves q 0 (omega arith) ∙ each q (omega arith) }
 
 module _ (s : NodeChart) (b j : ℕ) (places class_of : List ℕ) (ok : Recodable s.arity b j (length places) class_of) (leaves : List ℕ) (codes : Coded (λ z. seen s.nodes s.count b (get_or places z 0)) class_of j leaves) where
   -- each leaf is there at the depth b
@@ -144,13 +143,6 @@ module _ (s : NodeChart) (b j : ℕ) (places class_of : List ℕ) (ok : Recodabl
     -- the moved nodes are ready for the new variables
     pub ready : Leaves raw e (s.arity - b + j) j leaves
     ready = leaves_ready s.arity s.count s.nodes s.ordered b j ok.bound raw shifts leaves leaf_there e all none
-
-    -- and no more than there were
-    pub few_shifted : e ≤ 1024
-    few_shifted = let room = s.room in elim (cases_lt b s.arity) [
-      | inl l ↦ omega (arith, all l)
-      | inr l ↦ let bound = ok.bound in omega (arith, none (omega arith))
-    ]
 
     -- what the top of the new nodes means
     pub recoded_is : (ys : List Node) (c root : ℕ) → Topped raw e ys c (s.arity - b + j) j leaves 0 root → mean ys (s.arity - b + j) 0 root ≡ recoded j (map (place_column s b) places) (λ q. get_or class_of q 0)

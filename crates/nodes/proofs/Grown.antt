@@ -56,14 +56,6 @@ pub placed : (m : ℕ) (ys : List Node) (n : ℕ) (y : Node) → at ys n ≡ y �
 placed m ys n y e a b c' d f =
     subst (λ (z : Node). (z.var < m) × (z.low < n) × (z.high < n) × (z.var < level m ys z.low) × (z.var < level m ys z.high)) (sym e) (a, b, c', d, f)
 
--- a list with the same nodes is ordered too
-pub ordered-agree : (m c : ℕ) (xs ys : List Node) → Ordered m xs c → Agree xs ys c → Ordered m ys c
-ordered-agree m c xs ys o g n two nc =
-    let p : Placed m xs n = o n two nc in
-    let ll = level-agree xs ys c g m (at xs n).low (omega arith) in
-    let lh = level-agree xs ys c g m (at xs n).high (omega arith) in
-    placed m ys n (at xs n) (g n two nc) p.0 p.1 p.2 (omega (arith, ll, p.3)) (omega (arith, lh, p.4))
-
 -- the node may stand above the first c nodes of xs
 pub record Above (m : ℕ) (xs : List Node) (c : ℕ) (node : Node) : Type 0 where
   pub within : node.var < m

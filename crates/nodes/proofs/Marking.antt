@@ -1,43 +1,20 @@
 -- The marks on what is come to from the root.
 use Rattle.std.proofs.Common.{◌≡◌, ℕ, ◌+◌, ◌-◌, ◌<◌, ◌≤◌, Bool, true, false, ◌⊎◌, List, [], ◌∷◌, ◌++◌, length, get_or, set, replicate, sym, ap, ◌∙◌, subst, inl, inr, ⊎_elim, append_assoc, length-append, arith}
 use Rattle.std.proofs.lemmas.Bool.{cases_eq, true≢false}
-use Rattle.std.proofs.lemmas.List.{get_or-set_same, get_or-set_other, append-nil, length-replicate, length-set, length_push}
+use Rattle.std.proofs.lemmas.List.{get_or-set_same, get_or-set_other, append-nil, length-replicate, length_push}
 use Rattle.std.proofs.Math.Seq.{get_or-append_seam}
 use Rattle.nodes.specs.declared.node.Node.{Node}
 use Rattle.nodes.specs.Diagrams.{at, blank, Ordered, Reach, start, to_low, to_high}
 use Rattle.nodes.proofs.Indexes.{get_or-copies}
 use Rattle.nodes.specs.Marks.{Marked, Spread, Marks}
 
--- a mark more keeps the marks
-set-kept : (marks : List Bool) (i n : ℕ) → i < length marks → Marked marks n → Marked (set marks i true) n
-set-kept marks i n h m =
-    ⊎_elim
-    (λ (e : n ≡ i). rw e (get_or-set_same marks i true false h))
-    (λ (e : n ≡ i → ⊥). get_or-set_other marks i n true false e ∙ m)
-    (cases_eq n i)
-
--- and adds one
+-- a mark more adds one
 set-only : (marks : List Bool) (i n : ℕ) → Marked (set marks i true) n → Marked marks n ⊎ (n ≡ i)
 set-only marks i n m =
     ⊎_elim
     (λ (e : n ≡ i). inr e)
     (λ (e : n ≡ i → ⊥). inl (sym (get_or-set_other marks i n true false e) ∙ m))
     (cases_eq n i)
-
--- the marks of two children
-pub spread_is : (marks : List Bool) (node : Node) → node.low < length marks → node.high < length marks → Spread marks (set (set marks node.low true) node.high true) node
-spread_is marks node l h =
-    let h' : node.high < length (set marks node.low true) = omega (arith, length-set marks node.low true) in
-    record {
-      kept = λ n m. set-kept (set marks node.low true) node.high n h' (set-kept marks node.low n l m);
-      only = λ n m.
-          ⊎_elim
-          (λ (q : Marked (set marks node.low true) n). ⊎_elim (λ a. inl a) (λ a. inr (inl a)) (set-only marks node.low n q))
-          (λ q. inr (inr q))
-          (set-only (set marks node.low true) node.high n m);
-      low = set-kept (set marks node.low true) node.high node.low h' (get_or-set_same marks node.low true false l);
-      high = get_or-set_same (set marks node.low true) node.high true false h';
-    }
 
 -- the root is marked first
 pub marks_first : (xs : List Node) (j root : ℕ) → root < j → Marks xs root (length xs + 2) (set (replicate j false) root true)

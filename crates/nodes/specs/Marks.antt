@@ -14,10 +14,6 @@ pub record Spread (old new : List Bool) (y : Node) : Type 0 where
   pub low : Marked new y.low
   pub high : Marked new y.high
 
--- children have smaller numbers
-abbrev pub Down : List Node → Type 0
-Down xs = (n : ℕ) → 2 ≤ n → n < length xs + 2 → ((at xs n).low < n) × ((at xs n).high < n)
-
 -- the root is marked, only what is come to from it, and the children of each marked node with a number of at least `from`
 pub record Marks (xs : List Node) (root from : ℕ) (marks : List Bool) : Type 0 where
   pub top : Marked marks root

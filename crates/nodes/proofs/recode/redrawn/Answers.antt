@@ -1,7 +1,7 @@
 use Rattle.std.proofs.Common.{◌≡◌, ℕ, ◌-◌, ◌^◌, length, get_or, sym, ap, ◌∙◌, arith, rules}
 use Rattle.std.proofs.lemmas.List.{length-take-le}
 use Rattle.nodes.specs.NodeCharts.{seen}
-use Rattle.nodes.proofs.Charting.{code_room, coded, ready, few_shifted, recoded_is}
+use Rattle.nodes.proofs.Charting.{code_room, coded, ready, recoded_is}
 use Rattle.nodes.proofs.recode.redrawn.Goals as goal
 
 pub slice_bounds-leaves-end : goal.slice_bounds-leaves-end
@@ -17,8 +17,8 @@ slice_bounds-crown-end c =
     let room = code_room c.args.recoding.now.codes c.requires.few in
     sym (length-take-le c.power.result c.leaves_of-leaves.result (omega arith))
 
-pub crown-root-requires : goal.crown-root-requires
-crown-root-requires c =
+pub crown-root-requires-clause-leaves : goal.crown-root-requires-clause-leaves
+crown-root-requires-clause-leaves c =
     let s = c.args.chart.now in
     let r = c.args.recoding.now in
     let len : length c.leaves_of-leaves.result ≡ 16 = search rules in
@@ -26,12 +26,15 @@ crown-root-requires c =
     let l = coded f r.class_of.now r.codes c.power.result (c.power.ensures.within (omega (arith, c.requires.few))) c.requires.few c.leaves_of-leaves.result len c.leaves_of-leaves.ensures in
     let raw = c.shifted-raw.result in
     let e = c.shifted-raw.ensures in
-    record {
-      leaves = rw e.arity (ready s r.bound r.codes r.places.now r.class_of.now c.requires _ l raw.nodes e.shifts raw.count e.all e.none);
-      within = omega arith;
-      width = let z : r.codes ≡ r.codes - 0 = omega arith in l.many ∙ ap (λ (q : ℕ). 2 ^ q) z;
-      room = omega (arith, l.few, few_shifted s r.bound r.codes r.places.now r.class_of.now c.requires _ l raw.nodes e.shifts raw.count e.all e.none);
-    }
+    rw e.arity (ready s r.bound r.codes r.places.now r.class_of.now c.requires _ l raw.nodes e.shifts raw.count e.all e.none)
+
+pub crown-root-requires-clause-width : goal.crown-root-requires-clause-width
+crown-root-requires-clause-width c =
+    let len : length c.leaves_of-leaves.result ≡ 16 = search rules in
+    let w = c.power.ensures.within (omega (arith, c.requires.few)) in
+    let room = code_room c.args.recoding.now.codes c.requires.few in
+    let z : c.args.recoding.now.codes ≡ c.args.recoding.now.codes - 0 = omega arith in
+    length-take-le c.power.result c.leaves_of-leaves.result (omega arith) ∙ w ∙ ap (λ (q : ℕ). 2 ^ q) z
 
 pub returns : goal.returns
 returns c =
