@@ -5,5 +5,5 @@ use Rattle.frames.specs.Outcome.{Outcome, frame, end, fault, awaited}
 
 pub due-long : (k n line : ℕ) (f : List ℕ) (o : Outcome) → frame f ≡ awaited (record { kind = k; len = n } ∷ []) line o → length f ≡ n
 due-long k n line f (frame bs) e = grind (arith, nat_tests)
-due-long k n line f end e = let z : ◌≡◌ {A = ℕ} 0 1 = cc in absurd (omega arith)
-due-long k n line f (fault w v) e = let z : ◌≡◌ {A = ℕ} 0 1 = cc in absurd (omega arith)
+due-long k n line f end e = absurd cc
+due-long k n line f (fault w v) e = absurd cc
