@@ -1,10 +1,11 @@
 -- Texts written over a buffer.
-use Rattle.std.proofs.Common.{◌≡◌, ℕ, suc, ◌+◌, ◌-◌, ◌*◌, ◌/◌, ◌%◌, ◌<◌, ◌≤◌, false, leb, List, [], ◌∷◌, ◌++◌, length, get_or, take, drop, set, sym, refl, ap, ◌∙◌, append_assoc, arith}
-use Rattle.std.proofs.lemmas.List.{take-append-drop, drop_more, take_more, length-append, length_push, length-take-le, set_at, take_at, drop_at, append-nil, at_drop_more, drop-drop, flat_map_more}
+use Rattle.std.proofs.Common.{◌≡◌, ℕ, suc, ◌+◌, ◌-◌, ◌*◌, ◌/◌, ◌%◌, ◌<◌, ◌≤◌, false, leb, List, [], ◌∷◌, ◌++◌, map, length, get_or, take, drop, set, sym, refl, ap, ◌∙◌, append_assoc, arith}
+use Rattle.std.proofs.lemmas.List.{take-append-drop, drop_more, take_more, length-append, length_push, length-take-le, set_at, take_at, drop_at, append-nil, at_drop_more, drop-drop, flat_map_more, map-append}
+use Rattle.std.proofs.lemmas.Grind.{flat_map-append}
 use Rattle.std.proofs.lemmas.Bool.{lt-leb}
 use Rattle.std.proofs.lemmas.Bool.Decides.{nat_tests}
 use Rattle.frames.specs.declared.frame.Frame.{Frame}
-use Rattle.frames.specs.Text.{hex_digit, hex, line_text, placed, over}
+use Rattle.frames.specs.Text.{hex_digit, hex, line_text, text, placed, over}
 use Rattle.frames.specs.Outcome.{body}
 use Rattle.frames.specs.Writing.{text_of}
 
@@ -58,8 +59,7 @@ two_placed o bs at i h room =
 
 -- the lines of frames, one by one
 text-append : (xs ys : List Frame) → text_of (xs ++ ys) ≡ text_of xs ++ text_of ys
-text-append [] ys = refl
-text-append (x ∷ xs) ys = ap (λ (t : List ℕ). line_text (body x) ++ t) (text-append xs ys) ∙ sym (append_assoc (line_text (body x)) (text_of xs) (text_of ys))
+text-append xs ys = ap text (map-append body xs ys) ∙ flat_map-append line_text (map body xs) (map body ys)
 
 module _ (fs : List Frame) (i : ℕ) (f : Frame) (h : i < length fs) (is : f ≡ get_or fs i f) where
   pub text-more : text_of (take (i + 1) fs) ≡ text_of (take i fs) ++ line_text (body f)

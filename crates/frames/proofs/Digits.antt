@@ -47,9 +47,9 @@ no_low xs pair rest fs e n h = rw (pair_write xs pair rest e n, h, paired_no_low
 
 -- two digits a byte
 paired-length : (h l : Option ℕ) (r : Option (List ℕ)) (n : ℕ) (bs : List ℕ) → ((cs : List ℕ) → r ≡ Some cs → n ≡ 2 * length cs) → paired h l r ≡ Some bs → n + 2 ≡ 2 * length bs
-paired-length None l r n bs f e = let z : ◌≡◌ {A = ℕ} 0 1 = cc in omega arith
-paired-length (Some h) None r n bs f e = let z : ◌≡◌ {A = ℕ} 0 1 = cc in omega arith
-paired-length (Some h) (Some l) None n bs f e = let z : ◌≡◌ {A = ℕ} 0 1 = cc in omega arith
+paired-length None l r n bs f e = cc
+paired-length (Some h) None r n bs f e = cc
+paired-length (Some h) (Some l) None n bs f e = absurd cc
 paired-length (Some h) (Some l) (Some cs) n bs f e =
     let a : (16 * h + l) ∷ cs ≡ bs = cc in
     let b : n ≡ 2 * length cs = f cs refl in
@@ -58,7 +58,7 @@ paired-length (Some h) (Some l) (Some cs) n bs f e =
 
 pub bytes_of-length : (ds bs : List ℕ) → bytes_of ds ≡ Some bs → length ds ≡ 2 * length bs
 bytes_of-length [] bs e = let a : [] ≡ bs = cc in let b : length {A = ℕ} [] ≡ length bs = ap length a in omega arith
-bytes_of-length (h ∷ []) bs e = let z : ◌≡◌ {A = ℕ} 0 1 = cc in omega arith
+bytes_of-length (h ∷ []) bs e = absurd cc
 bytes_of-length (h ∷ l ∷ ds) bs e =
     let a : length ds + 2 ≡ 2 * length bs = paired-length (digit_value h) (digit_value l) (bytes_of ds) (length ds) bs (bytes_of-length ds) e in
     omega arith

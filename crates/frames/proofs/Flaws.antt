@@ -1,7 +1,7 @@
 -- What the flaw of a line shows.
-use Rattle.std.proofs.Common.{◌≡◌, ℕ, suc, ◌+◌, ◌-◌, ◌*◌, ◌/◌, ◌%◌, ◌<◌, cond, eqb, ltb, List, [], ◌∷◌, length, get_or, take, is_some, Some, None, Option, sym, refl, ap, ◌∙◌, one-add, arith}
+use Rattle.std.proofs.Common.{◌≡◌, ℕ, suc, ◌+◌, ◌-◌, ◌*◌, ◌/◌, ◌%◌, ◌<◌, false, cond, eqb, ltb, List, [], ◌∷◌, length, get_or, take, is_some, Some, None, Option, sym, refl, ap, ◌∙◌, arith}
 use Rattle.std.proofs.lemmas.List.{length-take-le, get_or-take}
-use Rattle.std.proofs.lemmas.List.Sums.{prefix_len-le-length}
+use Rattle.std.proofs.lemmas.List.Sums.{prefix_len-le-length, prefix_len_stops}
 use Rattle.std.proofs.lemmas.Bool.{cond_both, eqb-true, eqb-false, ltb-true, ltb-false}
 use Rattle.frames.specs.declared.faults.Flaw.TheVariants.{Character, OddDigits, Length}
 use Rattle.frames.specs.Text.{digit_value, digit_run, bytes_of, bounded, width}
@@ -30,14 +30,12 @@ digits_write (h ∷ l ∷ ds) run even =
     ((16 * p.0.0 + q.0.0) ∷ r.0, two_write h l ds r.0 p.0.0 q.0.0 p.0.1 q.0.1 r.1)
 
 -- the character after the run is no digit
-stop_more : (c : ℕ) (cs : List ℕ) → (digit_run cs < length cs → digit_value (get_or cs (digit_run cs) 0) ≡ None) →
-    (o : Option ℕ) → digit_value c ≡ o → cond (is_some o) (1 + digit_run cs) 0 < length (c ∷ cs) → digit_value (get_or (c ∷ cs) (cond (is_some o) (1 + digit_run cs) 0) 0) ≡ None
-stop_more c cs later None e k = e
-stop_more c cs later (Some d) e k = rw one-add (later (omega arith))
+no_value : (o : Option ℕ) → is_some o ≡ false → o ≡ None
+no_value None e = refl
+no_value (Some d) e = absurd cc
 
 run_stop : (ds : List ℕ) → digit_run ds < length ds → digit_value (get_or ds (digit_run ds) 0) ≡ None
-run_stop [] h = absurd (let z : ◌<◌ 0 0 = h in omega arith)
-run_stop (c ∷ cs) h = stop_more c cs (run_stop cs) (digit_value c) refl h
+run_stop ds h = no_value (digit_value (get_or ds (digit_run ds) 0)) (prefix_len_stops (λ c. is_some (digit_value c)) ds 0 h)
 
 -- the flaw of a line whose characters write no 2 to 24 bytes
 pub flaw_shows : (xs : List ℕ) → width xs < length xs → bounded (bytes_of (take (width xs) xs)) ≡ None → Shows xs (flaw_of (take (width xs) xs))
@@ -59,4 +57,4 @@ flaw_shows xs h none =
     let even : length ds % 2 ≡ 0 = omega arith in
     let w = digits_write ds all even in
     let m = bytes_of-length ds w.0 w.1 in
-    (omega arith, λ low high. let b = bounded-some w.0 (omega arith) (omega arith) in let e : bounded (bytes_of ds) ≡ Some w.0 = ap bounded w.1 ∙ b in let z : ◌≡◌ {A = ℕ} 0 1 = cc in omega arith)))
+    (omega arith, λ low high. let b = bounded-some w.0 (omega arith) (omega arith) in let e : bounded (bytes_of ds) ≡ Some w.0 = ap bounded w.1 ∙ b in absurd cc)))

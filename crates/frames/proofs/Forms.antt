@@ -53,8 +53,8 @@ module _ (k : Kind) where
   -- and a frame that is read where it is due is such a frame
   awaited-told : (s line : ℕ) (f : List ℕ) (o : Outcome) → awaited (form k (s + 2) ∷ []) line o ≡ frame f → (o ≡ frame f) × (get_or f 0 0 ≡ kind_byte k) × (length f ≡ s + 2)
   awaited-told s line f (frame bs) e = grind (arith, nat_tests)
-  awaited-told s line f end e = let z : ◌≡◌ {A = ℕ} 0 1 = cc in absurd (omega arith)
-  awaited-told s line f (fault w v) e = let z : ◌≡◌ {A = ℕ} 0 1 = cc in absurd (omega arith)
+  awaited-told s line f end e = absurd cc
+  awaited-told s line f (fault w v) e = absurd cc
 
   pub due-told : (xs : List ℕ) (s line : ℕ) (f : List ℕ) → due k (s + 2) xs line ≡ frame f → (xs ≡ line_text (sealed (kind_byte k ∷ take s (drop 1 f))) ++ past xs) × Bytes f × (length f ≡ s + 2)
   due-told xs s line f e =

@@ -7,8 +7,8 @@ use Rattle.frames.specs.Outcome.{Outcome, frame, end, fault, body, outcome, awai
 
 due-long : (k n line : ℕ) (f : List ℕ) (o : Outcome) → frame f ≡ awaited (record { kind = k; len = n } ∷ []) line o → length f ≡ n
 due-long k n line f (frame bs) e = grind (arith, nat_tests)
-due-long k n line f end e = let z : ◌≡◌ {A = ℕ} 0 1 = cc in absurd (omega arith)
-due-long k n line f (fault w v) e = let z : ◌≡◌ {A = ℕ} 0 1 = cc in absurd (omega arith)
+due-long k n line f end e = absurd cc
+due-long k n line f (fault w v) e = absurd cc
 
 -- and of an answer
 pub read-long : (k n line : ℕ) (o : Outcome) (r : Result (Option Frame) FrameFault) → outcome r ≡ awaited (record { kind = k; len = n } ∷ []) line o → IfOk r (λ o. IfSome o (λ f. length (body f) ≡ n))

@@ -1,8 +1,7 @@
 -- Lines of a text, and where they end.
-use Rattle.std.proofs.Common.{◌≡◌, ℕ, ◌+◌, ◌-◌, ◌<◌, ◌≤◌, cond, not, eqb, ltb, List, [], ◌∷◌, length, get_or, take, drop, sym, refl, ap, ◌∙◌, arith}
+use Rattle.std.proofs.Common.{◌≡◌, ℕ, ◌+◌, ◌-◌, ◌<◌, cond, ltb, List, [], ◌∷◌, length, take, drop, sym, refl, ap, ◌∙◌, arith}
 use Rattle.std.proofs.lemmas.List.{length-drop, drop-drop, drop_all}
-use Rattle.std.proofs.lemmas.List.Sums.{prefix_len-drop_yes, prefix_len-drop_no, prefix_len-drop_all}
-use Rattle.std.proofs.lemmas.Bool.{cond-true, cond-false, ne_eqb, eq-eqb, not_from_false, not_from_true, lt-ltb, le-ltb}
+use Rattle.std.proofs.lemmas.Bool.{cond-true, cond-false, lt-ltb, le-ltb}
 use Rattle.frames.specs.declared.faults.FaultNumbers.{FaultNumbers}
 use Rattle.frames.specs.declared.faults.Flaw.TheVariants.{NoEnd}
 use Rattle.frames.specs.declared.faults.FrameFault.{FrameFault}
@@ -11,21 +10,12 @@ use Rattle.frames.specs.Numbers.{numbers}
 use Rattle.frames.specs.Text.{width}
 use Rattle.frames.specs.Outcome.{frame, end, fault, line_outcome, reading, past, line_after}
 
-pub width_on : (xs : List ℕ) (i : ℕ) → i < length xs → (get_or xs i 0 ≡ 10 → ⊥) → width (drop i xs) ≡ 1 + width (drop (i + 1) xs)
-width_on xs i h ne = prefix_len-drop_yes (λ c. not (eqb c 10)) xs i 0 h (not_from_false (eqb (get_or xs i 0) 10) (ne_eqb (get_or xs i 0) 10 ne))
-
-pub width_stop : (xs : List ℕ) (i : ℕ) → i < length xs → get_or xs i 0 ≡ 10 → width (drop i xs) ≡ 0
-width_stop xs i h e = prefix_len-drop_no (λ c. not (eqb c 10)) xs i 0 h (not_from_true (eqb (get_or xs i 0) 10) (eq-eqb (get_or xs i 0) 10 e))
-
-pub width_all : (xs : List ℕ) (i : ℕ) → length xs ≤ i → width (drop i xs) ≡ 0
-width_all xs i h = prefix_len-drop_all (λ c. not (eqb c 10)) xs i h
-
 pub reading-more : (xs : List ℕ) (line : ℕ) → 0 < length xs → reading xs line ≡ cond (ltb (width xs) (length xs)) (line_outcome line (take (width xs) xs)) (fault (numbers 1 1 line 0) (Malformed line NoEnd))
-reading-more [] line h = absurd (let z : ◌<◌ 0 0 = h in omega arith)
+reading-more [] line h = absurd (omega arith)
 reading-more (c ∷ cs) line h = refl
 
 pub line-more : (xs : List ℕ) (line : ℕ) → 0 < length xs → line_after xs line ≡ line + 1
-line-more [] line h = absurd (let z : ◌<◌ 0 0 = h in omega arith)
+line-more [] line h = absurd (omega arith)
 line-more (c ∷ cs) line h = refl
 
 -- the three ways of a call, at a place of the text
@@ -65,7 +55,7 @@ some_left [] line h = absurd (h refl)
 some_left (c ∷ cs) line h = omega arith
 
 pub less_after_frame : (xs : List ℕ) (line : ℕ) (f : List ℕ) → frame f ≡ reading xs line → length (past xs) < length xs
-less_after_frame xs line f e = less_left xs line (λ z. let q : ◌≡◌ {A = ℕ} 0 1 = cc in omega arith)
+less_after_frame xs line f e = less_left xs line (λ z. absurd cc)
 
 pub less_after_fault : (xs : List ℕ) (line : ℕ) (n : FaultNumbers) (w : FrameFault) → fault n w ≡ reading xs line → length (past xs) < length xs
-less_after_fault xs line n w e = less_left xs line (λ z. let q : ◌≡◌ {A = ℕ} 0 1 = cc in omega arith)
+less_after_fault xs line n w e = less_left xs line (λ z. absurd cc)

@@ -1,9 +1,9 @@
 -- Reading what was written, and that nothing else reads so.
-use Rattle.std.proofs.Common.{◌≡◌, ℕ, zero, suc, ◌+◌, ◌-◌, ◌*◌, ◌/◌, ◌%◌, ◌<◌, Bool, true, false, not, ◌&&◌, eqb, ltb, leb, List, [], ◌∷◌, ◌++◌, map, length, get_or, take, drop, Some, None, sum, Option, sym, refl, ap, ◌∙◌, append_assoc, one-add, arith}
+use Rattle.std.proofs.Common.{◌≡◌, ℕ, zero, suc, ◌+◌, ◌-◌, ◌*◌, ◌/◌, ◌%◌, ◌<◌, Bool, true, false, not, ◌&&◌, eqb, ltb, leb, List, [], ◌∷◌, ◌++◌, map, length, get_or, take, drop, Some, None, sum, Option, sym, refl, ap, ◌∙◌, append_assoc, arith}
 use Rattle.std.specs.List.{AllByRecursion as All}
 use Rattle.std.proofs.lemmas.Bool.Decides.{nat_tests}
 use Rattle.std.proofs.lemmas.List.{take_at, drop_at, take-append-drop, drop_more, length-append, length-take-le}
-use Rattle.std.proofs.lemmas.List.Sums.{prefix_len-le-length}
+use Rattle.std.proofs.lemmas.List.Sums.{prefix_len-le-length, prefix_len_stops}
 use Rattle.std.proofs.lemmas.Bool.{cond-true, cond_both, eqb-true, eq-eqb, ltb-true, ltb-false, lt-ltb, and_parts, leb-true, ne_eqb, not_from_false, not-false}
 use Rattle.frames.specs.declared.frame.Frame.{Frame}
 use Rattle.frames.specs.declared.faults.Flaw.TheVariants.{NoEnd}
@@ -50,9 +50,9 @@ bytes-hex (b ∷ bs) (small, h) =
 hex-paired : (h l : ℕ) (x y : Option ℕ) (r : Option (List ℕ)) (ds bs : List ℕ) → digit_value h ≡ x → digit_value l ≡ y
     → ((cs : List ℕ) → r ≡ Some cs → (ds ≡ hex cs) × All (λ b. b < 256) cs)
     → paired x y r ≡ Some bs → (h ∷ l ∷ ds ≡ hex bs) × All (λ b. b < 256) bs
-hex-paired h l None y r ds bs p q f e = let z : ◌≡◌ {A = ℕ} 0 1 = cc in absurd (omega arith)
-hex-paired h l (Some a) None r ds bs p q f e = let z : ◌≡◌ {A = ℕ} 0 1 = cc in absurd (omega arith)
-hex-paired h l (Some a) (Some b) None ds bs p q f e = let z : ◌≡◌ {A = ℕ} 0 1 = cc in absurd (omega arith)
+hex-paired h l None y r ds bs p q f e = absurd cc
+hex-paired h l (Some a) None r ds bs p q f e = absurd cc
+hex-paired h l (Some a) (Some b) None ds bs p q f e = absurd cc
 hex-paired h l (Some a) (Some b) (Some cs) ds bs p q f e =
     let u = hex_digit_digit h a p in
     let v = hex_digit_digit l b q in
@@ -70,7 +70,7 @@ hex-paired h l (Some a) (Some b) (Some cs) ds bs p q f e =
 
 hex-bytes : (ds bs : List ℕ) → bytes_of ds ≡ Some bs → (ds ≡ hex bs) × All (λ b. b < 256) bs
 hex-bytes [] bs e = let w : bs ≡ [] = cc in rw w (refl, tt)
-hex-bytes (h ∷ []) bs e = let z : ◌≡◌ {A = ℕ} 0 1 = cc in absurd (omega arith)
+hex-bytes (h ∷ []) bs e = absurd cc
 hex-bytes (h ∷ l ∷ ds) bs e = hex-paired h l (digit_value h) (digit_value l) (bytes_of ds) ds bs refl refl (hex-bytes ds) e
 
 -- where a line ends
@@ -90,12 +90,7 @@ width-hex (b ∷ bs) rest =
 
 -- the byte at which a line ends
 stop_at : (xs : List ℕ) → width xs < length xs → get_or xs (width xs) 0 ≡ 10
-stop_at [] h = absurd (let z : ◌<◌ 0 0 = h in omega arith)
-stop_at (x ∷ xs) h =
-    cond_both (goes_on x) (1 + width xs) 0 (λ w. w < length (x ∷ xs) → get_or (x ∷ xs) w 0 ≡ 10)
-    (λ t k. let n : width xs < length xs = omega arith in rw one-add (stop_at xs n))
-    (λ t k. eqb-true x 10 (not-false (eqb x 10) t))
-    h
+stop_at xs h = eqb-true (get_or xs (width xs) 0) 10 (not-false (eqb (get_or xs (width xs) 0) 10) (prefix_len_stops goes_on xs 0 h))
 
 at_width : (xs : List ℕ) → width xs < length xs → xs ≡ take (width xs) xs ++ (10 ∷ past xs)
 at_width xs h =
@@ -139,19 +134,19 @@ module _ (xs : List ℕ) (line : ℕ) where
       (λ t. good bs begins (eqb-true (sum bs % 256) 0 t))
       (λ t.
       let n : length (take (length bs - 1) bs) ≡ length bs - 1 = length-take-le (length bs - 1) bs (omega arith) in
-      wrong-sum bs (sealing (take (length bs - 1) bs)) begins (λ e. let q = eq-eqb (sum bs % 256) 0 e in let z : ◌≡◌ {A = Bool} true false = sym q ∙ t in let y : ◌≡◌ {A = ℕ} 0 1 = cc in omega arith)
+      wrong-sum bs (sealing (take (length bs - 1) bs)) begins (λ e. let q = eq-eqb (sum bs % 256) 0 e in let z : ◌≡◌ {A = Bool} true false = sym q ∙ t in absurd cc)
       (sealed-good (take (length bs - 1) bs) (let s = begins.sized in omega arith) (let s = begins.sized in omega arith), sealed-bytes (take (length bs - 1) bs) (front_bytes bs (length bs - 1) begins.bytes)))
 
 -- bytes within bounds, from the characters of a line
 bounded_is : (o : Option (List ℕ)) (f : List ℕ) → Some f ≡ bounded o → (o ≡ Some f) × Sized f
-bounded_is None f e = let z : ◌≡◌ {A = ℕ} 0 1 = cc in absurd (omega arith)
+bounded_is None f e = absurd cc
 bounded_is (Some bs) f eq =
     cond_both (leb 2 (length bs) && leb (length bs) 24) (Some bs) None (λ o. Some f ≡ o → (Some bs ≡ Some f) × Sized f)
     (λ t e.
     let p = and_parts (leb 2 (length bs)) (leb (length bs) 24) t in
     let q : bs ≡ f = cc in
     (sym e, rw (sym q) (leb-true 2 (length bs) p.0, leb-true (length bs) 24 p.1)))
-    (λ t e. let z : ◌≡◌ {A = ℕ} 0 1 = cc in absurd (omega arith)) eq
+    (λ t e. absurd cc) eq
 
 -- digits that pass the bounds write bytes
 pub bounded-bytes : (ds f : List ℕ) → Some f ≡ bounded (bytes_of ds) → Bytes f
@@ -182,7 +177,7 @@ begun_line xs bs rest begins =
 
 tells_line : (xs : List ℕ) (line : ℕ) → 0 < length xs → width xs < length xs → (o : Option (List ℕ)) → o ≡ bounded (bytes_of (take (width xs) xs)) → Tells xs line (judged line (take (width xs) xs) o)
 tells_line xs line some h None e =
-    malformed (flaw_of (take (width xs) xs)) some (λ bs rest begins. let q = (begun_line xs bs rest begins).1 in let z : ◌≡◌ {A = ℕ} 0 1 = cc in omega arith) (flaw_shows xs h (sym e))
+    malformed (flaw_of (take (width xs) xs)) some (λ bs rest begins. let q = (begun_line xs bs rest begins).1 in absurd cc) (flaw_shows xs h (sym e))
 tells_line xs line some h (Some bs) e = tells_sum xs line bs (begins_line xs bs h e)
 
 pub reading_tells : ReadingTells
@@ -193,21 +188,21 @@ reading_tells (c ∷ cs) line =
     cond_both (ltb (width xs) (length xs)) (line_outcome line (take (width xs) xs)) (fault (numbers 1 1 line 0) (Malformed line NoEnd)) (Tells xs line)
     (λ t. tells_line xs line some (ltb-true (width xs) (length xs) t) (bounded (bytes_of (take (width xs) xs))) refl)
     (λ t.
-    malformed NoEnd some (λ bs rest begins. let q = lt-ltb (width xs) (length xs) (begun_line xs bs rest begins).0 in let z : ◌≡◌ {A = ℕ} 0 1 = cc in omega arith)
+    malformed NoEnd some (λ bs rest begins. let q = lt-ltb (width xs) (length xs) (begun_line xs bs rest begins).0 in absurd cc)
     (let w = prefix_len-le-length goes_on xs in let v = ltb-false (width xs) (length xs) t in omega arith))
 
 -- the two that the round trip needs of it
 frame-told : (xs : List ℕ) (line : ℕ) (o : Outcome) (f : List ℕ) → Tells xs line o → o ≡ frame f → (xs ≡ line_text f ++ past xs) × Sound f
-frame-told xs line end f (none e) q = let z : ◌≡◌ {A = ℕ} 0 1 = cc in absurd (omega arith)
+frame-told xs line end f (none e) q = absurd cc
 frame-told xs line (frame g) f (good h begins ok) q =
     let e : h ≡ f = cc in
     rw (sym e) (begins.starts, ((begins.sized, ok), begins.bytes))
-frame-told xs line (fault n e) f t q = let z : ◌≡◌ {A = ℕ} 0 1 = cc in absurd (omega arith)
+frame-told xs line (fault n e) f t q = absurd cc
 
 end-told : (xs : List ℕ) (line : ℕ) (o : Outcome) → Tells xs line o → o ≡ end → xs ≡ []
 end-told xs line end (none e) q = e
-end-told xs line (frame g) t q = let z : ◌≡◌ {A = ℕ} 0 1 = cc in absurd (omega arith)
-end-told xs line (fault n e) t q = let z : ◌≡◌ {A = ℕ} 0 1 = cc in absurd (omega arith)
+end-told xs line (frame g) t q = absurd cc
+end-told xs line (fault n e) t q = absurd cc
 
 pub frame-read : (xs : List ℕ) (line : ℕ) (f : List ℕ) → reading xs line ≡ frame f → (xs ≡ line_text f ++ past xs) × Sound f
 frame-read xs line f e = frame-told xs line (reading xs line) f (reading_tells xs line) e
