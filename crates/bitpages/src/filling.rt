@@ -35,6 +35,7 @@ pub fn read_chart(reader: &mut FrameReader, chart: &mut BitChart) -> Result<(), 
 pub fn load_chart(text: &[u8], chart: &mut BitChart) -> Result<(), PageFault>
     ensures { (line : ℕ) × Charted (alone text.now 1) [] line chart.old chart.new result }
 {
+    // Kept: one function for this and read_chart would take the reading as a closure, no plainer than these lines.
     let mut table = [false; 4096];
     let n = load_table(text, &mut table)?;
     *chart = chart_of(Arity { n }, &table);

@@ -24,12 +24,11 @@ fn read_bytes(
 {
     let size = arity.bytes();
     let share = arity.share();
-    let mut at = 0;
-    while at < size {
+    // Kept: over chunks_exact_mut the invariant cannot name the bytes, so each part is cut out by its place.
+    for at in (0..size).step_by(share) {
         let line = reader.line();
         let frame = read_bits(reader, arity)?.ok_or(PageFault::Missing { line })?;
         bytes[at..at + share].copy_from_slice(&frame.bytes()[1..1 + share]);
-        at += share;
     }
     Ok(())
 }
@@ -50,7 +49,9 @@ fn unpack(bytes: &[u8], table: &mut [bool; 4096])
     ensures { (i : ℕ) → i < 4096 → slice_index_or table.new i false ≡ entry_at bytes.now i }
 {
     for (i, entry) in table.iter_mut().enumerate() {
-        *entry = i / 8 < bytes.len() && bit_of(u64::from(bytes[i / 8]), i % 8);
+        *entry = bytes
+            .get(i / 8)
+            .is_some_and(|byte| bit_of(u64::from(*byte), i % 8));
     }
 }
 

@@ -58,6 +58,7 @@ pub fn read_chart(reader: &mut FrameReader, chart: &mut NodeChart) -> Result<(),
 pub fn load_chart(text: &[u8], chart: &mut NodeChart) -> Result<(), PageFault>
     ensures { (line : ℕ) × Fills (λ d s _. Holds d s) (alone text.now 1) [] line chart.old chart.new result }
 {
+    // Kept: one function for this and read_chart would take the reading as a closure, no plainer than these lines.
     let mut reader = FrameReader::new(text);
     let loaded = read_page(&mut reader)?;
     read_end(&mut reader)?;

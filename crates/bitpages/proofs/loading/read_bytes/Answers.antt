@@ -1,22 +1,13 @@
-use Rattle.std.proofs.Common.{◌≡◌, ℕ, ◌+◌, ◌-◌, ◌≤◌, List, ◌++◌, length, take, drop, sym, ap, ◌∙◌, arith, rules}
+use Rattle.std.proofs.Common.{◌≡◌, ℕ, ◌+◌, ◌-◌, take, ap, ◌∙◌, arith}
 use borrow.Rule.Slice.PartMut.{put_mid}
-use Rattle.std.proofs.lemmas.List.{length-take-le, length-drop, places}
-use Rattle.std.proofs.lemmas.Slice.{take-put_mid}
 use Rattle.frames.specs.declared.frame.Frame.{Frame}
 use Rattle.frames.specs.Outcome.{body}
 use Rattle.frames.specs.Reading.{left}
-use Rattle.frames.proofs.Pages.{onward-some, onward-none, onward-err}
+use Rattle.frames.proofs.Pages.{onward-none, onward-err}
 use Rattle.bitpages.specs.Page.{packed, carried}
-use Rattle.bitpages.specs.Table.{size, share}
-use Rattle.bitpages.proofs.Shares.{then_shares, left_all, left-none, left-within, left-more, left-room, left-got}
+use Rattle.bitpages.specs.Table.{size}
+use Rattle.bitpages.proofs.Shares.{next_share, then_shares, left_all, left-none, left-within, left-more, left-room}
 use Rattle.bitpages.proofs.loading.read_bytes.Goals as goal
-
-length-carried : (n : ℕ) (bs : List ℕ) → length bs ≡ share n + 2 → length (carried n bs) ≡ share n
-length-carried n bs h = length-take-le (share n) (drop 1 bs) (let d = length-drop 1 bs in omega arith)
-
--- a share copied into a buffer
-copied : (old es : List ℕ) (at s k : ℕ) → length es ≡ s → k ≡ s → at + s ≤ length old → (length (put_mid at k old es) ≡ length old) × (take (at + s) (put_mid at k old es) ≡ take at old ++ es)
-copied old es at s k long e room = (search (rules, places), take-put_mid at k old es (at + s) (omega arith) (omega arith))
 
 pub loop-at-init : goal.loop-at-init
 loop-at-init c = (c.told-bytes, left_all c.args.arity.n (left c.args.reader.now) c.args.reader.now.line)
@@ -41,22 +32,19 @@ slice_bounds-copy_from_slice-end c =
 
 pub loop-at-preserved : goal.loop-at-preserved
 loop-at-preserved c =
-    let n = c.args.arity.n in
-    let at = c.loop-at.at in
-    let f = c.in_ok-frame.frame in
-    let room = left-room c.loop-at.invariant.1 (omega arith) in
-    let m = left-more c.loop-at.invariant.1 (omega arith) in
     let e = c.in_ok-read_bits.ensures in
-    let some = c.in_ok-frame.ensures.ok_part in
-    let a = onward-some (λ (f : Frame). carried n (body f)) c.loop-at.reader.line (then_shares n m.0 (take at c.loop-at.bytes) (left c.loop-at.reader) c.loop-at.reader.line) m.2 c.in_ok-read_bits.field-0 f e.answer some in
-    let s : c.share-share.result ≡ share c.args.arity.n = c.share-share.ensures.value in
-    let el = e.long in
-    let long : length (body c.in_ok-frame.frame) ≡ share c.args.arity.n + 2 = rw some at el in
-    let k : 1 + c.share-share.result - 1 ≡ share c.args.arity.n = omega arith in
-    let es : c.copy_from_slice.new.self ≡ carried c.args.arity.n (body c.in_ok-frame.frame) = c.copy_from_slice.ensures.after ∙ ap (λ (k : ℕ). take k (drop 1 c.bytes.result.now)) k ∙ ap (carried n) c.bytes.ensures in
-    let l = left-got c.loop-at.invariant.1 (omega arith) m.0 (carried n (body f)) (left c.read_bits.new.reader) c.read_bits.new.reader.line m.1 a e.moved.rest e.moved.line in
-    let p = copied c.loop-at.bytes c.copy_from_slice.new.self at c.share-share.result (at + c.share-share.result - at) (ap length es ∙ length-carried n (body f) long ∙ sym s) (omega arith) (omega arith) in
-    (p.0 ∙ c.loop-at.invariant.0, rw (p.1, es, s) l)
+    let p = next_share c.args.arity.n c.loop-at.at c.share-share.result c.loop-at.reader.line c.read_bits.new.reader.line c.loop-at.bytes c.copy_from_slice.new.self c.bytes.result.now (left c.loop-at.reader) (left c.read_bits.new.reader) _ c.in_ok-read_bits.field-0 c.in_ok-frame.frame c.loop-at.invariant.1 (omega arith) (omega arith) c.share-share.ensures.value e.answer c.in_ok-frame.ensures.ok_part e.long c.bytes.ensures c.copy_from_slice.ensures.after e.moved.rest e.moved.line in
+    (p.0 ∙ c.loop-at.invariant.0, p.1)
+
+pub returns-in_ok-frame : goal.returns-in_ok-frame
+returns-in_ok-frame c =
+    let n = c.args.arity.n in
+    let e = c.in_ok-read_bits.ensures in
+    let p = next_share c.args.arity.n c.loop-at.at c.share-share.result c.loop-at.reader.line c.read_bits.new.reader.line c.loop-at.bytes c.copy_from_slice.new.self c.bytes.result.now (left c.loop-at.reader) (left c.read_bits.new.reader) _ c.in_ok-read_bits.field-0 c.in_ok-frame.frame c.loop-at.invariant.1 (omega arith) (omega arith) c.share-share.ensures.value e.answer c.in_ok-frame.ensures.ok_part e.long c.bytes.ensures c.copy_from_slice.ensures.after e.moved.rest e.moved.line in
+    let room = left-within p.1 in
+    let last : c.loop-at.at + c.share-share.result ≡ size c.args.arity.n = omega arith in
+    let bs = put_mid c.loop-at.at (c.loop-at.at + c.share-share.result - c.loop-at.at) c.loop-at.bytes c.copy_from_slice.new.self in
+    (packed n (take (c.loop-at.at + c.share-share.result) bs), left-none p.1 (omega arith), ap (λ (k : ℕ). packed n (take k bs)) last)
 
 pub returns : goal.returns
 returns c =
