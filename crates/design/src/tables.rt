@@ -28,6 +28,7 @@ pub(crate) fn assignments(signals: usize) -> usize
 }
 
 /// The table of a chart's function of at most 5 arguments.
+#[tactic(auto, using(rows::proofs::Firsts::length_first, rows::proofs::Firsts::first_push))]
 pub(crate) fn function_table<C: Chart>(chart: &C) -> u32
     requires { C.Chart.arity chart.now ≤ 5 }
     ensures { result ≡ tabled (2 ^ C.Chart.arity chart.now) (λ e. value (chart_function C.Chart chart.now) (bits (C.Chart.arity chart.now) e)) }

@@ -3,19 +3,8 @@ use Rattle.functions.specs.Functions.{value}
 use Rattle.functions.specs.Words.{bits}
 use Rattle.families.specs.Tables.{tabled}
 use Rattle.charts.specs.Walks.{chart_function}
-use Rattle.rows.proofs.Firsts.{length_first, first_push}
 use Rattle.design.proofs.Rows.{table_of_first}
 use Rattle.design.proofs.tables.function_table.Goals as goal
-
-pub push-requires : goal.push-requires
-push-requires g c =
-    let n = length_first (λ e. value (chart_function g.C.Chart c.args.chart.now) (bits (g.C.Chart.arity c.args.chart.now) e)) c.loop-e.e c.loop-e.entries.items c.loop-e.invariant in
-    let few = c.assignments-e-end.ensures.bound in
-    (lit< tt, omega arith)
-
-pub loop-e-preserved : goal.loop-e-preserved
-loop-e-preserved g c =
-    c.push.ensures ∙ first_push (λ e. value (chart_function g.C.Chart c.args.chart.now) (bits (g.C.Chart.arity c.args.chart.now) e)) c.loop-e.e c.loop-e.entries.items c.loop-e.invariant c.value_at.result c.value_at.ensures
 
 pub returns : goal.returns
 returns g c =
