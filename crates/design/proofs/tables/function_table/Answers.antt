@@ -1,4 +1,4 @@
-use Rattle.std.proofs.Common.{◌≡◌, ℕ, Bool, ◌^◌, ◌≤◌, min, false, length, get_or, lit<, ap, ◌∙◌, arith}
+use Rattle.std.proofs.Common.{◌≡◌, ℕ, Bool, ◌^◌, ◌≤◌, min, false, length, get_or, ap, ◌∙◌, arith}
 use Rattle.functions.specs.Functions.{value}
 use Rattle.functions.specs.Words.{bits}
 use Rattle.families.specs.Tables.{tabled}
