@@ -9,3 +9,4 @@ pub mod Lent
 pub mod Tolds
 pub mod Reached
 pub mod Promised
+pub mod Performed

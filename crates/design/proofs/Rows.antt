@@ -2,7 +2,7 @@
 use Rattle.std.proofs.Common.{◌≡◌, ℕ, ◌+◌, ◌-◌, ◌<◌, ◌≤◌, min, Bool, false, List, [], ◌∷◌, ◌++◌, map, length, get_or, take, drop, set, sym, refl, ap, ◌∙◌, arith}
 use Rattle.std.specs.List.{range_with_len}
 use Rattle.std.proofs.lemmas.List.FromFn.{length-map-range_with_len, map-range_with_len_more, get_or-map-range_with_len}
-use Rattle.std.proofs.lemmas.List.{length-append, length-drop, length-map, length-take, get_or-map, append-nil, drop-take, map-id, take_all, take_at, take_more_set}
+use Rattle.std.proofs.lemmas.List.{length-append, length-drop, length-map, get_or-map, append-nil, map-id, take_all, take_at, take_more_set}
 use Rattle.std.proofs.lemmas.Slice.{take-put_mid}
 use borrow.Rule.Slice.PartMut.{put_mid}
 use Rattle.functions.specs.Functions.{Fn, bit, value, under}
@@ -37,10 +37,8 @@ range_push first i xs h is =
     ∙ map-id (range_with_len first (i + 1))
 
 -- the new signals, and then the free ones
-pub live_row : (live news blank ys : List ℕ) (m b j first : ℕ) → j < b → b ≤ m → m ≤ 16 → length live ≡ 16 → length news ≡ j → length blank ≡ 16 → take j news ≡ range_with_len first j → ys ≡ take (m - b) (drop b live) →
-    take (m - b + j) (put_mid j (m - b + j - j) (news ++ drop j blank) ys) ≡ range_with_len first j ++ drop b (take m live)
-live_row live news blank ys m b j first fewer fits small long front wide is free =
-    let n : m - b + j ≡ j + length ys = omega (arith, ap length free, length-take (m - b) (drop b live), length-drop b live) in
-    take-put_mid j (m - b + j - j) (news ++ drop j blank) ys (m - b + j) n (omega (arith, length-append news (drop j blank)))
-    ∙ ap (λ xs. xs ++ ys) (take_at news (drop j blank) j front ∙ sym (take_all j news (omega arith)) ∙ is)
-    ∙ ap (λ xs. range_with_len first j ++ xs) (free ∙ sym (drop-take b (m - b) live) ∙ (let w : b + (m - b) ≡ m = omega arith in ap (λ k. drop b (take k live)) w))
+pub live_row : (live news blank : List ℕ) (b j first : ℕ) → j < b → b ≤ length live → length live ≤ 16 → length news ≡ j → length blank ≡ 16 → take j news ≡ range_with_len first j →
+    take (length live - b + j) (put_mid j (length live - b + j - j) (news ++ drop j blank) (drop b live)) ≡ range_with_len first j ++ drop b live
+live_row live news blank b j first fewer fits small long wide is =
+    take-put_mid j (length live - b + j - j) (news ++ drop j blank) (drop b live) (length live - b + j) (omega (arith, length-drop b live)) (omega (arith, length-append news (drop j blank)))
+    ∙ ap (λ xs. xs ++ drop b live) (take_at news (drop j blank) j long ∙ sym (take_all j news (omega arith)) ∙ is)

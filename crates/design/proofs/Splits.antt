@@ -30,10 +30,6 @@ use Rattle.design.specs.Cells.{cells_of, number_table, code_cells}
 use Rattle.design.specs.Designs.{inverted, left_of, seen, Step, SplitCall}
 use Rattle.design.proofs.Swaps.{fits_below}
 
--- the range of a split, by the numbers that were asked
-pub ranged_as : (K L m n b j : ℕ) → K ≡ L → m ≡ n → Ranged K m b j → Ranged L n b j
-ranged_as K L m n b j e h r = record { some = r.some; pinned = let p = r.pinned in omega arith; bound = let p = r.bound in omega arith; fewer = r.fewer }
-
 -- the strip is too short
 module _ {C P R F : Type 0} (ch : chart.Ghosts C P) (ru : rule.Ghosts R) (fa : family.Ghosts F) (d : Design C R F P) (b j : ℕ) (before after : List P)
     (long : length d.live ≡ 16) (still : d.netlist.closed ≡ false) (ranged : Ranged (fa.pins d.family) (ch.arity d.chart.below) b j)

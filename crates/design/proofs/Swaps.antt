@@ -1,6 +1,8 @@
 -- What a swap of the chart makes of a design.
 use Rattle.std.proofs.Common.{◌≡◌, ℕ, zero, suc, ◌+◌, ◌<◌, ◌≤◌, false, ◌↔◌, List, [], ◌∷◌, length, get_or, take, set, sym, refl, ap, ◌∙◌, subst, inr, add-one, arith}
+use Rattle.std.specs.List.{swap}
 use Rattle.std.proofs.lemmas.List.{length-take-le}
+use Rattle.std.proofs.lemmas.List.Edits.{swap_is}
 use Rattle.std.proofs.lemmas.Bool.{true≢false}
 use Rattle.functions.specs.Functions.{Fn, negated, exchanged}
 use Rattle.functions.specs.Words.{swapped}
@@ -43,7 +45,7 @@ module _ {C P R F : Type 0} (ch : chart.Ghosts C P) (ru : rule.Ghosts R) (fa : f
   wide : length (take m d.live) ≡ m
   wide = let n = ch.laws.small d.chart.below in length-take-le m d.live (omega arith)
 
-  pub swap_done : (x : Inverting C P) (live : List ℕ) → live ≡ set (set d.live p (get_or d.live (p + 1) 0)) (p + 1) (get_or d.live p 0) → p + 1 < m → Became (inverted ch).arity (whole (inverted ch).column (inverted ch).root) (inverted ch).fits m (exchanged p (left_of ch ru fa d)) d.chart x →
+  pub swap_done : (x : Inverting C P) (live : List ℕ) → live ≡ swap d.live p (p + 1) → p + 1 < m → Became (inverted ch).arity (whole (inverted ch).column (inverted ch).root) (inverted ch).fits m (exchanged p (left_of ch ru fa d)) d.chart x →
       Step ch ru fa d (Swap p) Done (record { chart = x; rule = d.rule; family = d.family; inputs = d.inputs; live = live; netlist = d.netlist })
   swap_done x live is fit became = record {
     answers = record {
@@ -51,7 +53,7 @@ module _ {C P R F : Type 0} (ch : chart.Ghosts C P) (ru : rule.Ghosts R) (fa : f
       leaves =
           let n = ch.laws.small d.chart.below in
           ap (λ k. state (take k live) (cells_of d.netlist) (negated (ch.column x.below 0 (ch.root x.below))) d.netlist.closed) became.counted
-          ∙ ap (λ l. state l (cells_of d.netlist) (negated (ch.column x.below 0 (ch.root x.below))) d.netlist.closed) (ap (take m) is ∙ crossed p m d.live fit (omega arith))
+          ∙ ap (λ l. state l (cells_of d.netlist) (negated (ch.column x.below 0 (ch.root x.below))) d.netlist.closed) (ap (take m) (is ∙ sym (swap_is d.live p (p + 1) 0 (omega arith) (omega arith))) ∙ crossed p m d.live fit (omega arith))
           ∙ ap (λ f. state (swapped p (take m d.live)) (cells_of d.netlist) f d.netlist.closed) became.meaning
           ∙ ap (state (swapped p (take m d.live)) (cells_of d.netlist) (exchanged p (left_of ch ru fa d))) still;
     };

@@ -1,6 +1,6 @@
 -- The bytes of a page.
 use Rattle.std.proofs.Common.{◌≡◌, ℕ, zero, suc, ◌+◌, ◌-◌, ◌<◌, ◌≤◌, Bool, true, false, cond, List, [], ◌∷◌, ◌++◌, map, length, get_or, take, drop, replicate, Ok, Err, Result, sym, refl, ap, ◌∙◌, inl, inr, arith}
-use Rattle.std.proofs.lemmas.List.{append_assoc, length-append, length-map, length-take-le, take_at, take-replicate, map_push, map_more, drop-replicate}
+use Rattle.std.proofs.lemmas.List.{append_assoc, length-append, length-drop, length-map, length-take-le, take_at, take-replicate, map_push, map_more, drop-replicate}
 use Rattle.std.proofs.lemmas.Bool.{true≢false}
 use Rattle.charts.specs.declared.chart.Chart as chart
 use Rattle.rules.specs.declared.rule.CodeRule as rule
@@ -25,6 +25,9 @@ use Rattle.design.specs.declared.cell.Cell.{Cell}
 use Rattle.design.specs.declared.design.Design.{Design}
 use Rattle.design.specs.Cells.{seen_cell}
 use Rattle.design.specs.Designs.{seen, network_seen, page_of, Step, WriteCall}
+
+pub length_padded : (ps : List ℕ) → length ps ≤ 5 → length (ps ++ drop (length ps) (replicate 5 255)) ≡ 5
+length_padded ps l = length-append ps (drop (length ps) (replicate 5 255)) ∙ omega (arith, length-drop {A = ℕ} (length ps) (replicate 5 255))
 
 -- the pins that are used, over marks, and marks up to k pins
 pub pins_padded : (ps : List ℕ) → length ps ≤ 5 → (k : ℕ) → k ≤ 5 → take k (ps ++ drop (length ps) (replicate 5 255)) ≡ take k (ps ++ replicate k 255)

@@ -28,6 +28,7 @@ fn class_at<C: Chart>(chart: &C, b: usize, places: &[C::Place], e: usize) -> usi
 }
 
 /// The class number of each bound assignment, by the places of the classes.
+#[tactic(auto, using(rows::proofs::Firsts::length_first, rows::proofs::Firsts::first_push))]
 pub(crate) fn class_numbers<C: Chart>(chart: &C, b: usize, places: &[C::Place]) -> Row<usize, 32>
     requires few { b ≤ 5 }
     requires places { map (C.Chart.column chart.now b) places.now ≡ classes_of (columns b (chart_function C.Chart chart.now)) }

@@ -25,6 +25,7 @@ use rules::rule::CodeRule;
 const UNUSED: u8 = 0xFF;
 
 /// The signals at the pins of a cell, with the mark at those that are not used.
+#[tactic(auto, using(crate::proofs::Written::pins_padded, crate::proofs::Written::length_padded))]
 fn pin_bytes(cell: &Cell) -> [u8; 5]
     ensures long { length result ≡ 5 }
     ensures pins { (k : ℕ) → k ≤ 5 → take k result ≡ take k ((seen_cell cell.now).pins ++ replicate k 255) }

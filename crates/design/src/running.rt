@@ -85,6 +85,7 @@ fn run<C: Chart, R: CodeRule, F: CellFamily>(
 /// (`judged`); and the design that is left keeps its promises (`kept`): its pin is the opened function, what it writes is
 /// taken back as a network with that function at its pin, and a split is refused for its classes exactly where the
 /// reference function has no decomposition.
+#[tactic(auto, using(crate::proofs::Performed::ran, crate::proofs::Performed::judged_run, crate::proofs::Performed::reached_run))]
 pub fn perform<C: Chart, R: CodeRule, F: CellFamily>(
     chart: C,
     rule: R,

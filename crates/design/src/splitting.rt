@@ -1,6 +1,6 @@
 //! Splits.
 
-ghost use Rattle.std.specs.Prelude.{◌≡◌, ◌+◌, ◌-◌, ◌<◌, ◌≤◌, ◌++◌, take, drop, Decides};
+ghost use Rattle.std.specs.Prelude.{◌≡◌, ◌+◌, ◌-◌, ◌<◌, ◌≤◌, ◌++◌, length, take, drop, Decides};
 ghost use Rattle.std.specs.List.{range_with_len};
 ghost use Rattle.mapping.specs.Answers.{Ranged};
 ghost use Rattle.design.specs.Designs.{split_answer, SplitCall};
@@ -17,13 +17,6 @@ use rules::rule::CodeRule;
 /// The most cells that splits make.
 const MOST: usize = 47;
 
-/// Whether a split's numbers are in range, where a cell has `pins` pins and `m` signals are live.
-fn in_range(pins: usize, m: usize, b: usize, j: usize) -> bool
-    ensures { Decides result (Ranged pins m b j) }
-{
-    b >= 1 && b <= pins && b <= m && j < b
-}
-
 /// The first `b` live signals.
 pub(crate) fn first_signals(live: &[u8; 16], b: usize) -> Row<u8, 5>
     requires { b ≤ 5 }
@@ -34,18 +27,19 @@ pub(crate) fn first_signals(live: &[u8; 16], b: usize) -> Row<u8, 5>
     pins
 }
 
-/// The live signals after a split of the first `b` of `m`: the new cells, from the signal `first` on, and the others.
-fn live_after(live: &[u8; 16], m: usize, b: usize, j: usize, first: u8) -> [u8; 16]
+/// The live signals after a split of the first `b`: `j` new cells, from the signal `first` on, and then the free signals.
+fn live_after(live: &[u8], b: usize, j: usize, first: u8) -> [u8; 16]
     requires fewer { j < b }
-    requires narrow { (b ≤ 5) × ((b ≤ m) × (m ≤ 16)) }
+    requires bound { (b ≤ 5) × (b ≤ length live.now) }
+    requires few { length live.now ≤ 16 }
     requires cell { first ≤ 64 }
-    ensures { take (m - b + j) result ≡ range_with_len first j ++ drop b (take m live.now) }
+    ensures { take (length live.now - b + j) result ≡ range_with_len first j ++ drop b live.now }
 {
     let mut after = [0; 16];
     for (i, signal) in after[..j].iter_mut().enumerate() {
         *signal = first + i as u8;
     }
-    after[j..m - b + j].copy_from_slice(&live[b..m]);
+    after[j..live.len() - b + j].copy_from_slice(&live[b..]);
     after
 }
 
@@ -57,6 +51,15 @@ pub struct SplitCounts {
 }
 
 impl<C: Chart, R: CodeRule, F: CellFamily> Design<C, R, F> {
+    /// Whether the numbers of a split are in range.
+    fn in_range(&self, b: usize, j: usize) -> bool
+        ensures { Decides result (Ranged (F.CellFamily.pins self.now.family) (C.Chart.arity self.now.chart.below) b j) }
+    {
+        let pins = self.family.pins();
+        let m = self.chart.count();
+        b >= 1 && b <= pins && b <= m && j < b
+    }
+
     /// Replaces the first `b` live signals by `j` new cells, which carry codes of the classes. Checks in order: closed,
     /// out of range, strip too short, too many classes, too many cells, does not fit. The strip takes the first place of
     /// each class. Answers the number of classes and the number of cells in the design.
@@ -71,8 +74,7 @@ impl<C: Chart, R: CodeRule, F: CellFamily> Design<C, R, F> {
         if self.netlist.closed {
             return Err(Refusal::Closed);
         }
-        let m = self.chart.count();
-        if !in_range(self.family.pins(), m, b, j) {
+        if !self.in_range(b, j) {
             return Err(Refusal::OutOfRange);
         }
         let Some(classes) = number_classes(&self.chart, b, strip) else {
@@ -88,6 +90,7 @@ impl<C: Chart, R: CodeRule, F: CellFamily> Design<C, R, F> {
         let places = &strip[..classes];
         let numbers = class_numbers(&self.chart, b, places);
         let class_of = code_classes(&self.rule, j, classes);
+        let m = self.chart.count();
         let recoding = Recoding {
             bound: b,
             codes: j,
@@ -99,7 +102,7 @@ impl<C: Chart, R: CodeRule, F: CellFamily> Design<C, R, F> {
         };
         let pins = first_signals(&self.live, b);
         add_code_cells(&mut self.netlist, &self.rule, pins, j, numbers.as_slice());
-        self.live = live_after(&self.live, m, b, j, 16 + made as u8);
+        self.live = live_after(&self.live[..m], b, j, 16 + made as u8);
         Ok(SplitCounts {
             classes,
             cells: made + j,

@@ -8,8 +8,7 @@ ghost use Rattle.charts.specs.Walks.{chart_function};
 
 use bits::power;
 use charts::{Chart, walk};
-use families::tables::table_of;
-use rows::Row;
+use families::tables::tabulate;
 
 /// The value of a chart's function at the assignment with the number `a`.
 pub(crate) fn value_at<C: Chart>(chart: &C, a: usize) -> bool
@@ -32,9 +31,5 @@ pub(crate) fn function_table<C: Chart>(chart: &C) -> u32
     requires { C.Chart.arity chart.now ≤ 5 }
     ensures { result ≡ tabled (2 ^ C.Chart.arity chart.now) (λ e. value (chart_function C.Chart chart.now) (bits (C.Chart.arity chart.now) e)) }
 {
-    let mut entries: Row<bool, 32> = Row::new(false);
-    for e in 0..assignments(chart.count()) {
-        entries.push(value_at(chart, e)).unwrap();
-    }
-    table_of(entries.as_slice())
+    tabulate(assignments(chart.count()), |e| value_at(chart, e))
 }

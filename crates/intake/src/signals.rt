@@ -26,6 +26,7 @@ impl Model for Signals {
 
 impl Signals {
     /// The signals of the inputs, input i at weight 2^i.
+    #[tactic(auto, using(rows::proofs::Firsts::length_first, rows::proofs::Firsts::first_push))]
     pub fn of_inputs(inputs: u16) -> Signals
         ensures { result ≡ input_bits inputs }
     {
