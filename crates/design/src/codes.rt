@@ -13,7 +13,7 @@ use super::netlist::Netlist;
 use super::tables::assignments;
 use bits::bit_of;
 use charts::{Chart, find, walk};
-use families::tables::table_of;
+use families::tables::tabulate;
 use rows::Row;
 use rules::rule::{CodeRule, class_of_code};
 use std::array;
@@ -73,12 +73,8 @@ fn code_table<R: CodeRule>(rule: &R, j: usize, t: usize, numbers: &[usize]) -> u
     requires short { length numbers.now ≤ 32 }
     ensures { result ≡ number_table (R.CodeRule.code rule.now) j numbers.now t }
 {
-    let mut entries: Row<bool, 32> = Row::new(false);
     let place = place_of(j, t);
-    for class in numbers {
-        entries.push(code_bit(rule, j, place, *class)).unwrap();
-    }
-    table_of(entries.as_slice())
+    tabulate(numbers.len(), |e| code_bit(rule, j, place, numbers[e]))
 }
 
 /// Adds the cells that carry the codes of the classes with these numbers, on the given pins.
