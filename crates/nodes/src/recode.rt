@@ -1,6 +1,6 @@
-ghost use Rattle.std.specs.Prelude.{◌≡◌, ℕ, ◌+◌, ◌-◌, ◌^◌, ◌<◌, ◌≤◌, map, length, slice_index};
+ghost use Rattle.std.specs.Prelude.{◌≡◌, ℕ, ◌+◌, ◌-◌, ◌^◌, ◌<◌, ◌≤◌, map, slice_index};
 ghost use Rattle.functions.specs.Functions.{recoded};
-ghost use Rattle.charts.specs.Changes.{Recodable};
+ghost use Rattle.charts.specs.Changes.{IsInRange};
 ghost use Rattle.nodes.specs.Diagrams.{node, blank};
 ghost use Rattle.nodes.specs.Recodes.{Shifts};
 ghost use Rattle.nodes.specs.NodeCharts.{seen, place_column, Draws};
@@ -47,7 +47,7 @@ fn shifted(chart: &NodeChart, b: u8, j: u8) -> Raw
 
 /// The number of the place of each code's class, in front of zeros.
 fn leaves_of(chart: &NodeChart, recoding: &Recoding<usize>) -> [u16; 16]
-    requires { Recodable chart.now.arity recoding.now.bound recoding.now.codes (length recoding.now.places.now) recoding.now.class_of.now }
+    requires { IsInRange chart.now.arity recoding.now }
     ensures { (q : ℕ) → q < 2 ^ recoding.now.codes → slice_index result q ≡ seen chart.now.nodes chart.now.count recoding.now.bound (slice_index recoding.now.places.now (slice_index recoding.now.class_of.now q)) }
 {
     // Kept: written by index. As a `zip` of `iter_mut` the proof did not close: nothing is known of what it wrote.
@@ -61,7 +61,7 @@ fn leaves_of(chart: &NodeChart, recoding: &Recoding<usize>) -> [u16; 16]
 
 /// The recoded chart, if the function's size is at most 1,024.
 pub(crate) fn redrawn(chart: &NodeChart, recoding: &Recoding<usize>) -> Result<NodeChart, Full>
-    requires { Recodable chart.now.arity recoding.now.bound recoding.now.codes (length recoding.now.places.now) recoding.now.class_of.now }
+    requires { IsInRange chart.now.arity recoding.now }
     ensures { Draws (chart.now.arity - recoding.now.bound + recoding.now.codes) (recoded recoding.now.codes (map (place_column chart.now recoding.now.bound) recoding.now.places.now) (λ q. slice_index recoding.now.class_of.now q)) result }
 {
     let (b, j) = (recoding.bound as u8, recoding.codes as u8);
