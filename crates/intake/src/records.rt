@@ -60,7 +60,7 @@ fn is_signal(pin: u8, inputs: usize, before: usize) -> bool
 fn are_pins(pins: &[u8], inputs: usize, before: usize) -> bool
     ensures { result ≡ pinned inputs before true pins.now }
 {
-    // Kept: tried skip_while and all; no function of lists says what skip_while leaves, and the proof did not close.
+    // Kept: tried skip_while with all, and position with split_at and all; the proof did not close.
     let mut used = true;
     for pin in pins {
         if *pin == UNUSED {
