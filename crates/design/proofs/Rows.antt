@@ -1,4 +1,4 @@
--- Tables from the lists of their entries, and the live signals after a split.
+-- The values of functions, and the live signals after a split.
 use Rattle.std.proofs.Common.{◌≡◌, ℕ, ◌+◌, ◌-◌, ◌<◌, ◌≤◌, min, Bool, false, List, [], ◌∷◌, ◌++◌, map, length, get_or, take, drop, set, sym, refl, ap, ◌∙◌, arith}
 use Rattle.std.specs.List.{range_with_len}
 use Rattle.std.proofs.lemmas.List.FromFn.{length-map-range_with_len, map-range_with_len_more, get_or-map-range_with_len}
@@ -9,20 +9,6 @@ use Rattle.functions.specs.Functions.{Fn, bit, value, under}
 use Rattle.functions.proofs.Values.{value_under}
 use Rattle.families.specs.Tables.{tabled}
 use Rattle.mapping.proofs.Splitting.{tabled-same}
-
--- the table of n entries
-table_of_entries : (es : List Bool) (n : ℕ) (t : ℕ → Bool) → length es ≡ n → n ≤ 32 → ((k : ℕ) → k < n → get_or es k false ≡ t k) → tabled (min (length es) 32) (λ e. get_or es e false) ≡ tabled n t
-table_of_entries es n t l h f =
-    let s : min (length es) 32 ≡ n = omega arith in
-    ap (λ k. tabled k (λ e. get_or es e false)) s ∙ tabled-same n (λ e. get_or es e false) t f
-
--- of the values of f on a list
-pub table_of_mapped : {X : Type 0} (f : X → Bool) (xs : List X) (d : X) → length xs ≤ 32 → tabled (min (length (map f xs)) 32) (λ e. get_or (map f xs) e false) ≡ tabled (length xs) (λ e. f (get_or xs e d))
-table_of_mapped f xs d h = table_of_entries (map f xs) (length xs) (λ e. f (get_or xs e d)) (length-map xs f) h (λ k l. get_or-map f xs k d false l)
-
--- of the values of t at the first n numbers
-pub table_of_first : (t : ℕ → Bool) (n : ℕ) → n ≤ 32 → tabled (min (length (map t (range_with_len 0 n))) 32) (λ e. get_or (map t (range_with_len 0 n)) e false) ≡ tabled n t
-table_of_first t n h = table_of_entries (map t (range_with_len 0 n)) n t (length-map-range_with_len t 0 n) h (λ k l. get_or-map-range_with_len t 0 n k k false l (omega arith))
 
 -- the value of a function whose column at all arguments is a bit
 pub value-bit : (f : Fn) (xs : List Bool) (b : Bool) → under f xs ≡ bit b → value f xs ≡ b

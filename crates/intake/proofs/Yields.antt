@@ -29,8 +29,8 @@ module _ {A : Type 0} (yields : List Bool → A → Bool) where
 
   -- the same of cells by what they stand for, of which the first i are there
   module _ {X : Type 0} (view : X → A) (vs : List Bool) (xs : List X) (i : ℕ) (all : List Bool) (is : all ≡ vs ++ yielded yields vs (map view (take i xs))) where
-    pub length-viewed : i ≤ length xs → length all ≡ length vs + i
-    length-viewed h =
+    pub length_viewed : i ≤ length xs → length all ≡ length vs + i
+    length_viewed h =
         ap length is
         ∙ length-append vs (yielded yields vs (map view (take i xs)))
         ∙ ap (λ n. length vs + n) (length-yielded vs (map view (take i xs)) ∙ length-map (take i xs) view ∙ length-take-le i xs h)
