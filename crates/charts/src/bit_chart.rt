@@ -22,6 +22,7 @@ pub struct Stretch {
 }
 
 /// A function of at most 12 arguments by its table, the entry of the assignment number `i` at `i`.
+// Kept: fixed memory, so the table has room for 12 arguments and their number stands beside.
 #[derive(Clone, Copy)]
 pub struct BitChart {
     table: [bool; ENTRIES],
