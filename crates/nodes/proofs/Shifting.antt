@@ -1,41 +1,14 @@
 -- The nodes below the first variables, moved to where the new variables end.
-use Rattle.std.proofs.Common.{◌≡◌, ℕ, zero, suc, ◌+◌, ◌-◌, ◌^◌, ◌<◌, ◌≤◌, true, false, List, length, get_or, set, sym, refl, ap, ◌∙◌, subst, inl, inr, ⊎_elim, arith}
+use Rattle.std.proofs.Common.{◌≡◌, ℕ, zero, suc, ◌+◌, ◌-◌, ◌^◌, ◌<◌, ◌≤◌, true, false, List, length, get_or, sym, refl, ap, ◌∙◌, inl, inr, ⊎_elim, arith}
 use Rattle.std.proofs.lemmas.Bool.{cases_lt, cases_eq}
-use Rattle.std.proofs.lemmas.List.{get_or-set_same, get_or-set_other}
 use Rattle.nodes.specs.declared.node.Node.{Node}
 use Rattle.functions.specs.Functions.{Fn, rows}
 use Rattle.functions.proofs.Rows.{rows_same}
-use Rattle.nodes.specs.Diagrams.{at, mean, level, down, Placed, Ordered, blank, node}
+use Rattle.nodes.specs.Diagrams.{at, mean, level, down, Placed, Ordered, node}
 use Rattle.nodes.specs.Recodes.{Shift, kept, gone, Shifts, chosen, Leaves, Topped}
 use Rattle.nodes.proofs.Canonical.{level-end, level-node, step, last_end}
 use Rattle.nodes.proofs.Grown.{placed}
 use Rattle.nodes.proofs.Swapping.{Downs, down_stands, down_passes}
-
--- a moved node is the node's
-pub shift_is : (xs : List Node) (b j n : ℕ) (y r : Node) → at xs n ≡ y → (b ≤ y.var → r ≡ node (y.var - b + j) y.low y.high) → (y.var < b → r ≡ blank) → Shift xs b j n r
-shift_is xs b j n y r e k g =
-    let v : (at xs n).var ≡ y.var = ap (λ (z : Node). z.var) e in
-    elim (cases_lt y.var b) [
-      | inl h ↦ gone (omega arith) (g h)
-      | inr h ↦ kept (omega arith) (k h ∙ ap (λ (z : Node). node (z.var - b + j) z.low z.high) (sym e))
-    ]
-
--- one node more
-pub shifts_more : (xs : List Node) (b j i : ℕ) (ys ys' : List Node) (k : ℕ) (y : Node) → k ≡ i → ys' ≡ set ys k y → i < length ys → Shifts xs b j (i + 2) ys → Shift xs b j (i + 2) y → Shifts xs b j (i + 1 + 2) ys'
-shifts_more xs b j i ys ys' k y ki es room s new n two less =
-    let es' : ys' ≡ set ys i y = es ∙ ap (λ (t : ℕ). set ys t y) ki in
-    ⊎_elim
-    (λ (e : n ≡ i + 2).
-    let e' : n - 2 ≡ i = omega arith in
-    let q : at ys' n ≡ y = ap (λ (z : List Node). at z n) es' ∙ ap (λ (t : ℕ). get_or (set ys i y) t blank) e' ∙ get_or-set_same ys i y blank room in
-    let P : Node → Type 0 = λ z. Shift xs b j n z in
-    let Q : ℕ → Type 0 = λ z. Shift xs b j z y in
-    subst P (sym q) (subst Q (sym e) new))
-    (λ (e : n ≡ i + 2 → ⊥).
-    let q : at ys' n ≡ at ys n = ap (λ (z : List Node). at z n) es' ∙ get_or-set_other ys i (n - 2) y blank (omega arith) in
-    let P : Node → Type 0 = λ z. Shift xs b j n z in
-    subst P (sym q) (s n two (omega arith)))
-    (cases_eq n (i + 2))
 
 module _ (m c : ℕ) (xs : List Node) (o : Ordered m xs c) (b j : ℕ) (bm : b ≤ m) (raw : List Node) (s : b < m → Shifts xs b j (c + 2) raw) where
   -- a number that has none of the first b variables keeps its children

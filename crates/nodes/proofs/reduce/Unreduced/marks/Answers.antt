@@ -24,9 +24,3 @@ spread-requires c =
     let p = marking_small s.nodes.now s.root _ _ c.loop-i.marks c.loop-i.invariant _ c.in-Some.node.now h.1.0 c.next.new.self.iter.count c.in-Some.i h.0 h.1.1 s.arity s.ordered in
     let q = marking_inside s.nodes.now s.root _ _ c.loop-i.marks c.loop-i.invariant _ c.in-Some.node.now h.1.0 c.next.new.self.iter.count c.in-Some.i h.0 h.1.1 in
     record { low = omega (arith, p.0); high = omega (arith, p.1) }
-
-pub is_marked-requires : goal.is_marked-requires
-is_marked-requires c =
-    let s = c.args.self.now in
-    let h = c.in-Some.ensures.steps in
-    omega (arith, marking_inside s.nodes.now s.root _ _ c.loop-i.marks c.loop-i.invariant _ c.in-Some.node.now h.1.0 c.next.new.self.iter.count c.in-Some.i h.0 h.1.1)
