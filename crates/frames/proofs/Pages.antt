@@ -38,7 +38,7 @@ onward-told line gone next y rest after e = let z : ◌≡◌ {A = ℕ} 0 1 = cc
 onward-told line (bad w v) next y rest after e = let z : ◌≡◌ {A = ℕ} 0 1 = cc in absurd (omega arith)
 
 -- a page with nothing after it
-pub closed-told : {X : Type 0} (x y : X) (xs rest : List ℕ) (line after : ℕ) (g : Got (List ℕ)) → anything xs line ≡ g → closed x xs line g ≡ page y rest after → (page x xs line ≡ page y rest after) × (xs ≡ []) × (rest ≡ [])
+closed-told : {X : Type 0} (x y : X) (xs rest : List ℕ) (line after : ℕ) (g : Got (List ℕ)) → anything xs line ≡ g → closed x xs line g ≡ page y rest after → (page x xs line ≡ page y rest after) × (xs ≡ []) × (rest ≡ [])
 closed-told x y xs rest line after gone is e =
     let n = anything-gone xs line (reading xs line) refl is in
     let s : xs ≡ rest = cc in

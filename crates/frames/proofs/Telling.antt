@@ -1,11 +1,9 @@
 -- What it tells of a text that a record was read from it.
-use Rattle.std.proofs.Common.{◌≡◌, ℕ, Bool, true, false, cond, List, [], is_some, Some, None, Ok, Option, refl}
-use Rattle.std.proofs.lemmas.Bool.{true≢false}
+use Rattle.std.proofs.Common.{◌≡◌, ℕ, Bool, true, false, cond, List, [], refl}
 use Rattle.frames.specs.declared.faults.FaultNumbers.{FaultNumbers}
 use Rattle.frames.specs.declared.faults.RecordFault.{RecordFault}
-use Rattle.frames.specs.declared.frame.Frame.{Frame}
-use Rattle.frames.specs.Outcome.{Outcome, frame, end, fault, reading, body}
-use Rattle.frames.specs.Records.{Got, got, gone, bad, recorded, answered}
+use Rattle.frames.specs.Outcome.{Outcome, frame, end, fault, reading}
+use Rattle.frames.specs.Records.{Got, got, gone, bad, recorded}
 use Rattle.frames.proofs.RoundTrip.{end_read}
 
 -- the value that passed a test
@@ -28,8 +26,3 @@ pub anything-gone : (xs : List ℕ) (line : ℕ) (o : Outcome) → reading xs li
 anything-gone xs line (frame f) is e = absurd cc
 anything-gone xs line end is e = end_read xs line is
 anything-gone xs line (fault w v) is e = absurd cc
-
--- an answer with no frame tells that no record is left
-pub no_frame : (o : Option Frame) → is_some o ≡ false → gone ≡ answered body (Ok o)
-no_frame None e = refl
-no_frame (Some f) e = absurd (true≢false e)
