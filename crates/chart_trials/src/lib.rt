@@ -21,11 +21,8 @@ mod tests {
     use charts::{BitChart, ChartRefusal, Inverting, Recoding, Stretch, number_classes};
     use std::test::Fail;
 
-    fn number(r: Result<(), ChartRefusal>) -> u8 {
-        match r {
-            Ok(_) => 0,
-            Err(e) => e.number(),
-        }
+    fn numbered(r: Result<(), ChartRefusal>) -> Result<(), u8> {
+        r.map_err(|refusal| refusal.number())
     }
 
     fn recoded(
@@ -34,8 +31,8 @@ mod tests {
         codes: usize,
         places: &[Stretch],
         class_of: &[usize],
-    ) -> u8 {
-        number(chart.recode(&Recoding {
+    ) -> Result<(), u8> {
+        numbered(chart.recode(&Recoding {
             bound,
             codes,
             places,
@@ -57,9 +54,9 @@ mod tests {
             return Err(Fail::new("12 arguments refused"));
         };
         let top = chart.top();
-        assert_eq!(rt; recoded(&mut chart, 0, 1, &[top], &[0, 0]), 20);
+        assert_eq!(rt; recoded(&mut chart, 0, 1, &[top], &[0, 0]), Err(20));
         assert!(rt; chart.count() == 12);
-        assert_eq!(rt; recoded(&mut chart, 0, 0, &[top], &[0]), 0);
+        assert_eq!(rt; recoded(&mut chart, 0, 0, &[top], &[0]), Ok(()));
         assert!(rt; value_at(&chart, 4095));
         Ok(())
     }
@@ -73,9 +70,9 @@ mod tests {
         let mut strip = [chart.top(); 4];
         assert_eq!(rt; number_classes(&chart, 2, &mut strip), Some(2));
         assert!(rt; chart.same(2, strip[1], walk(&chart, 2, 3)));
-        assert_eq!(rt; number(chart.swap(3)), 11);
-        assert_eq!(rt; number(chart.swap(usize::MAX)), 11);
-        assert_eq!(rt; number(chart.swap(1)), 0);
+        assert_eq!(rt; numbered(chart.swap(3)), Err(11));
+        assert_eq!(rt; numbered(chart.swap(usize::MAX)), Err(11));
+        assert_eq!(rt; numbered(chart.swap(1)), Ok(()));
         assert!(rt; !value_at(&chart, 10) && value_at(&chart, 12));
         assert_eq!(rt; number_classes(&chart, 2, &mut strip), Some(4));
         Ok(())
@@ -145,7 +142,7 @@ mod tests {
             return Err(Fail::new("four inputs refused"));
         };
         assert_eq!(rt; number_classes(&compared, 2, &mut strip), Some(4));
-        assert_eq!(rt; number(compared.swap(1)), 0);
+        assert_eq!(rt; numbered(compared.swap(1)), Ok(()));
         assert_eq!(rt; number_classes(&compared, 2, &mut strip), Some(2));
         Ok(())
     }
@@ -162,9 +159,9 @@ mod tests {
         let first = BitChart::empty().top();
         assert!(rt; !chart.end(top) && chart.end(first) && !chart.same(most, top, first));
         assert_eq!(rt; number_classes(&chart, most, &mut strip), None);
-        assert_eq!(rt; recoded(&mut chart, most, 1, &[top], &[0, 0]), 11);
-        assert_eq!(rt; recoded(&mut chart, 0, most, &[top], &[0]), 11);
-        assert_eq!(rt; recoded(&mut chart, 0, 1, &[top], &[0, most]), 11);
+        assert_eq!(rt; recoded(&mut chart, most, 1, &[top], &[0, 0]), Err(11));
+        assert_eq!(rt; recoded(&mut chart, 0, most, &[top], &[0]), Err(11));
+        assert_eq!(rt; recoded(&mut chart, 0, 1, &[top], &[0, most]), Err(11));
         assert!(rt; BitChart::with_entries(most, &[]).is_none());
         Ok(())
     }
@@ -176,11 +173,11 @@ mod tests {
         };
         let mut strip = [chart.top(); 4];
         assert_eq!(rt; number_classes(&chart, 2, &mut strip), Some(2));
-        assert_eq!(rt; recoded(&mut chart, 2, 1, &strip[0..2], &[0, 2]), 11);
-        assert_eq!(rt; recoded(&mut chart, 2, 1, &strip[0..2], &[0]), 11);
-        assert_eq!(rt; recoded(&mut chart, 5, 1, &strip[0..2], &[0, 1]), 11);
+        assert_eq!(rt; recoded(&mut chart, 2, 1, &strip[0..2], &[0, 2]), Err(11));
+        assert_eq!(rt; recoded(&mut chart, 2, 1, &strip[0..2], &[0]), Err(11));
+        assert_eq!(rt; recoded(&mut chart, 5, 1, &strip[0..2], &[0, 1]), Err(11));
         assert!(rt; value_at(&chart, 12) && !value_at(&chart, 4));
-        assert_eq!(rt; recoded(&mut chart, 2, 1, &strip[0..2], &[0, 1]), 0);
+        assert_eq!(rt; recoded(&mut chart, 2, 1, &strip[0..2], &[0, 1]), Ok(()));
         assert!(rt; chart.count() == 3);
         assert!(rt; value_at(&chart, 4) && value_at(&chart, 3) && !value_at(&chart, 1));
         Ok(())

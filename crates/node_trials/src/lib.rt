@@ -6,19 +6,23 @@ mod tests {
     use charts::{Chart, ChartRefusal, Recoding, number_classes, walk};
     use nodes::NodeChart;
 
-    fn recode(
+    fn numbered(r: Result<(), ChartRefusal>) -> Result<(), u8> {
+        r.map_err(|refusal| refusal.number())
+    }
+
+    fn recoded(
         chart: &mut NodeChart,
         bound: usize,
         codes: usize,
         places: &[usize],
         class_of: &[usize],
-    ) -> Result<(), ChartRefusal> {
-        chart.recode(&Recoding {
+    ) -> Result<(), u8> {
+        numbered(chart.recode(&Recoding {
             bound,
             codes,
             places,
             class_of,
-        })
+        }))
     }
 
     fn value_at(chart: &NodeChart, a: usize) -> bool {
@@ -26,9 +30,9 @@ mod tests {
     }
 
     // Two arguments more in front: 1 where both are 1, and else what the chart means.
-    fn with_a_pair(chart: &mut NodeChart) -> Result<(), ChartRefusal> {
+    fn with_a_pair(chart: &mut NodeChart) -> Result<(), u8> {
         let top = chart.top();
-        recode(chart, 0, 2, &[top, 1], &[0, 0, 0, 1])
+        recoded(chart, 0, 2, &[top, 1], &[0, 0, 0, 1])
     }
 
     // x1 x2 + x3 x4 + x5 x6 has 6 nodes in this order, and 14 in the order x1 x3 x5 x2 x4 x6.
@@ -40,9 +44,9 @@ mod tests {
         }
         assert_eq!(rt; chart.size(), 6);
         assert!(rt; value_at(&chart, 48) && value_at(&chart, 3) && !value_at(&chart, 42));
-        assert_eq!(rt; chart.swap(1), Ok(()));
-        assert_eq!(rt; chart.swap(3), Ok(()));
-        assert_eq!(rt; chart.swap(2), Ok(()));
+        assert_eq!(rt; numbered(chart.swap(1)), Ok(()));
+        assert_eq!(rt; numbered(chart.swap(3)), Ok(()));
+        assert_eq!(rt; numbered(chart.swap(2)), Ok(()));
         assert_eq!(rt; chart.size(), 14);
         assert!(rt; value_at(&chart, 36) && value_at(&chart, 9) && !value_at(&chart, 56));
     }
@@ -52,13 +56,13 @@ mod tests {
     fn the_comparison(rt: HostRuntime) {
         let mut chart = NodeChart::empty();
         let equal = [1, 0, 0, 0, 0, 1, 0, 0, 0, 0, 1, 0, 0, 0, 0, 1];
-        assert_eq!(rt; recode(&mut chart, 0, 4, &[0, 1], &equal), Ok(()));
+        assert_eq!(rt; recoded(&mut chart, 0, 4, &[0, 1], &equal), Ok(()));
         assert_eq!(rt; chart.size(), 9);
         let mut strip = [0; 4];
         assert_eq!(rt; number_classes(&chart, 2, &mut strip), Some(4));
-        assert_eq!(rt; chart.swap(3), Err(ChartRefusal::OutOfRange));
-        assert_eq!(rt; chart.swap(usize::MAX), Err(ChartRefusal::OutOfRange));
-        assert_eq!(rt; chart.swap(1), Ok(()));
+        assert_eq!(rt; numbered(chart.swap(3)), Err(11));
+        assert_eq!(rt; numbered(chart.swap(usize::MAX)), Err(11));
+        assert_eq!(rt; numbered(chart.swap(1)), Ok(()));
         assert_eq!(rt; chart.size(), 6);
         assert_eq!(rt; number_classes(&chart, 2, &mut strip), Some(2));
     }
@@ -74,13 +78,7 @@ mod tests {
         assert_eq!(rt; chart.step(0, usize::MAX, true), 0);
         assert_eq!(rt; chart.step(2, 77, true), 77);
         assert!(rt; !chart.end(77) && chart.end(1));
-        assert_eq!(rt;
-            recode(&mut chart, 3, 0, &[0], &[0]),
-            Err(ChartRefusal::OutOfRange)
-        );
-        assert_eq!(rt;
-            recode(&mut chart, 0, 1, &[0], &[0, 1]),
-            Err(ChartRefusal::OutOfRange)
-        );
+        assert_eq!(rt; recoded(&mut chart, 3, 0, &[0], &[0]), Err(11));
+        assert_eq!(rt; recoded(&mut chart, 0, 1, &[0], &[0, 1]), Err(11));
     }
 }
