@@ -46,7 +46,7 @@ fn fits(frames: &[Frame], room: usize) -> bool
     ensures { result ≡ nat_le (length (text_of frames.now)) room }
 {
     let mut spare = room;
-    // Kept: tried `try_fold` with `checked_sub`; what it ensures of a whole run does not say that no call failed.
+    // Kept: tried `try_fold` with `checked_sub`; not proved, as `runs` ties no call's total to that of the call before.
     for frame in frames {
         let need = line_len(frame);
         if spare < need {

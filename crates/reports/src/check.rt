@@ -69,6 +69,7 @@ pub fn check_text(heap: Global, text: &[u8]) -> Result<Report, AllocError>
     let mut reader = FrameReader::new(text);
     let mut all = String::new(heap);
     let mut faulty = 0;
+    // Kept: `?` ends the loop and the reader is asked for its line after it, so a chain is no plainer.
     while let Some(line) = next_line(heap, &mut reader)? {
         all.push_str(line.text.as_str())?;
         if line.faulty {
