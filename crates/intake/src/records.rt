@@ -21,10 +21,10 @@ pub struct Heading {
 
 /// What the cells of a page look like: how many inputs they may name, and how many pins and configuration bytes they have.
 #[derive(Clone, Copy)]
-pub struct Shape {
-    pub inputs: usize,
-    pub pins: usize,
-    pub bytes: usize,
+pub(crate) struct Shape {
+    pub(crate) inputs: usize,
+    pub(crate) pins: usize,
+    pub(crate) bytes: usize,
     ghost few_pins: { pins ≤ 5 },
     ghost few_bytes: { bytes ≤ 16 },
 }
