@@ -1,6 +1,7 @@
 //! Hexadecimal digits, and the sum of bytes.
 
-ghost use Rattle.std.specs.Prelude.{◌≡◌, ◌%◌, ◌<◌, ◌≤◌, true, false, length, take, IfSome, sum};
+ghost use Rattle.std.specs.Prelude.{◌≡◌, ◌+◌, ◌%◌, ◌<◌, ◌≤◌, true, false, length, take, IfSome, sum};
+ghost use Rattle.std.specs.List.{fold};
 ghost use Rattle.std.specs.Option.{option_map};
 ghost use Rattle.frames.specs.Text.{hex_digit, digit_value, byte_digits, bytes_of, bounded, digit_run, sealing};
 
@@ -31,11 +32,18 @@ pub fn byte_digits(b: u8) -> [u8; 2]
     [hex_digit(b / 16), hex_digit(b % 16)]
 }
 
+/// The sum of bytes, which wraps at each of them.
+fn wrapping_sum(bytes: &[u8]) -> u8
+    ensures { result ≡ fold (λ t b. (t + b) % 256) 0 bytes.now }
+{
+    bytes.iter().fold(0u8, |total, b| total.wrapping_add(*b))
+}
+
 /// The sum of bytes, which wraps at 256.
 pub fn sum_of(bytes: &[u8]) -> u8
     ensures { result ≡ sum bytes.now % 256 }
 {
-    bytes.iter().fold(0u8, |total, b| total.wrapping_add(*b))
+    wrapping_sum(bytes)
 }
 
 /// The byte that makes the sum of a frame's content and itself a multiple of 256.
