@@ -6,4 +6,4 @@ pub returns : goal.returns
 returns g c =
     let long : length c.args.self.now.live ≡ 16 = omega arith in
     let done = c.in_ok-swap.ensures {u = c.in_ok-swap.field-0} in
-    swap_done g.C.Chart g.R.CodeRule g.F.CellFamily c.args.self.now c.args.p long c.if-self.false c.swap.new.self c.swap-2.new.self c.swap-2.ensures.after done.0 done.1
+    swap_done g.C.Chart g.R.CodeRule g.F.CellFamily c.args.self.now c.args.p long c.if-self.false c.swap.new.self c.exchange.new.live c.exchange.ensures done.0 done.1
