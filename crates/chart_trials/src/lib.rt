@@ -1,24 +1,11 @@
 //! Charts on small functions.
 #![tactic(auto)]
 
-ghost use Rattle.std.specs.Prelude.{◌≡◌};
-ghost use Rattle.functions.specs.Words.{bits};
-ghost use Rattle.functions.specs.Functions.{value};
-ghost use Rattle.charts.specs.Walks.{chart_function};
-
-use charts::{Chart, walk};
-
-/// The value of a chart's function at the assignment number `a`.
-pub fn value_at<C: Chart>(chart: &C, a: usize) -> bool
-    ensures { result ≡ value (chart_function C.Chart chart.now) (bits (C.Chart.arity chart.now) a) }
-{
-    chart.end(walk(chart, chart.count(), a))
-}
-
 #[cfg(test)]
 mod tests {
-    use super::*;
-    use charts::{BitChart, ChartRefusal, Inverting, Recoding, Stretch, number_classes};
+    use charts::{
+        BitChart, Chart, ChartRefusal, Inverting, Recoding, Stretch, number_classes, value_at,
+    };
     use std::test::Fail;
 
     fn numbered(r: Result<(), ChartRefusal>) -> Result<(), u8> {

@@ -18,4 +18,4 @@ pub use inverting::Inverting;
 pub use laws::{bit_functions_lawful, columns_lawful};
 pub use numbering::number_classes;
 pub use refusal::ChartRefusal;
-pub use walks::walk;
+pub use walks::{value_at, walk};

@@ -1,4 +1,4 @@
--- The values of functions, and the live signals after a split.
+-- The live signals after a split.
 use Rattle.std.proofs.Common.{◌≡◌, ℕ, ◌+◌, ◌-◌, ◌<◌, ◌≤◌, min, Bool, false, List, [], ◌∷◌, ◌++◌, map, length, get_or, take, drop, set, sym, refl, ap, ◌∙◌, arith}
 use Rattle.std.specs.List.{range_with_len}
 use Rattle.std.proofs.lemmas.List.FromFn.{length-map-range_with_len, map-range_with_len_more, get_or-map-range_with_len}
@@ -9,10 +9,6 @@ use Rattle.functions.specs.Functions.{Fn, bit, value, under}
 use Rattle.functions.proofs.Values.{value_under}
 use Rattle.families.specs.Tables.{tabled}
 use Rattle.mapping.proofs.Splitting.{tabled-same}
-
--- the value of a function whose column at all arguments is a bit
-pub value-bit : (f : Fn) (xs : List Bool) (b : Bool) → under f xs ≡ bit b → value f xs ≡ b
-value-bit f xs b e = ap (value f) (sym (append-nil xs)) ∙ value_under f xs [] ∙ ap (λ g. value g []) e
 
 -- the new signals, one more
 pub range_push : (first i : ℕ) (xs : List ℕ) → i < length xs → take i xs ≡ range_with_len first i → take (i + 1) (set xs i (first + i)) ≡ range_with_len first (i + 1)

@@ -17,12 +17,10 @@ use families::tables::widened;
 use frames::frame::Frame;
 use frames::kinds::Kind;
 use frames::writer::write_frames;
+use intake::cell::UNUSED;
 use mapping::refusal::Refusal;
 use rows::Row;
 use rules::rule::CodeRule;
-
-/// The mark of a pin that is not used.
-const UNUSED: u8 = 0xFF;
 
 /// The signals at the pins of a cell, with the mark at those that are not used.
 #[tactic(auto, using(crate::proofs::Written::pins_padded, crate::proofs::Written::length_padded))]

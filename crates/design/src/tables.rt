@@ -7,15 +7,8 @@ ghost use Rattle.families.specs.Tables.{tabled};
 ghost use Rattle.charts.specs.Walks.{chart_function};
 
 use bits::power;
-use charts::{Chart, walk};
+use charts::{Chart, value_at};
 use families::tables::tabulate;
-
-/// The value of a chart's function at the assignment with the number `a`.
-pub(crate) fn value_at<C: Chart>(chart: &C, a: usize) -> bool
-    ensures { result ≡ value (chart_function C.Chart chart.now) (bits (C.Chart.arity chart.now) a) }
-{
-    chart.end(walk(chart, chart.count(), a))
-}
 
 /// How many assignments at most 5 signals have.
 pub(crate) fn assignments(signals: usize) -> usize

@@ -2,6 +2,7 @@
 use Rattle.std.proofs.Common.{◌≡◌, ℕ, zero, suc, ◌+◌, ◌-◌, ◌<◌, ◌≤◌, Bool, true, false, List, [], ◌∷◌, ◌++◌, length, Decides, sym, refl, ap, ◌∙◌, arith}
 use mathlib.Core.Bool.{false≢true, beq}
 use Rattle.std.proofs.lemmas.Bool.{and_parts}
+use Rattle.std.proofs.lemmas.List.{append-nil}
 use Rattle.functions.specs.Words.{swapped}
 use Rattle.functions.specs.Functions.{Fn, bit, fork, Arity, value, cofactor, under, exchanged}
 use Rattle.functions.specs.Classes.{same_fn}
@@ -87,3 +88,7 @@ arity_exchanged zero (suc (suc m)) f h a =
     ((left false false, left true false), (left false true, left true true))
 arity_exchanged (suc p) (suc m) (bit b) h a = a
 arity_exchanged (suc p) (suc m) (fork z o) h a = (arity_exchanged p m z (omega arith) a.0, arity_exchanged p m o (omega arith) a.1)
+
+-- the value of a function whose column at all arguments is a bit
+pub value_bit : (f : Fn) (xs : List Bool) (b : Bool) → under f xs ≡ bit b → value f xs ≡ b
+value_bit f xs b e = ap (value f) (sym (append-nil xs)) ∙ value_under f xs [] ∙ ap (λ g. value g []) e

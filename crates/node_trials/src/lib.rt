@@ -3,7 +3,7 @@
 
 #[cfg(test)]
 mod tests {
-    use charts::{Chart, ChartRefusal, Recoding, number_classes, walk};
+    use charts::{Chart, ChartRefusal, Recoding, number_classes, value_at};
     use nodes::NodeChart;
 
     fn numbered(r: Result<(), ChartRefusal>) -> Result<(), u8> {
@@ -23,10 +23,6 @@ mod tests {
             places,
             class_of,
         }))
-    }
-
-    fn value_at(chart: &NodeChart, a: usize) -> bool {
-        chart.end(walk(chart, chart.count(), a))
     }
 
     // Two arguments more in front: 1 where both are 1, and else what the chart means.

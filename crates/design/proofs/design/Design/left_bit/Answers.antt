@@ -3,7 +3,7 @@ use Rattle.std.proofs.lemmas.List.{length-take, get_or-take}
 use Rattle.functions.specs.Functions.{under}
 use Rattle.mapping.specs.States.{values}
 use Rattle.design.specs.Designs.{inverted, left_of}
-use Rattle.design.proofs.Rows.{value-bit}
+use Rattle.functions.proofs.Values.{value_bit}
 use Rattle.design.proofs.Walks.{stepped}
 use Rattle.design.proofs.design.Design.left_bit.Goals as goal
 
@@ -24,4 +24,4 @@ returns g c =
     let m = ch.arity d.chart.below in
     let T : ℕ → Type 0 = λ k. (inverted g.C.Chart).column c.args.self.now.chart k c.loop-depth.place ≡ under (left_of g.C.Chart g.R.CodeRule g.F.CellFamily c.args.self.now) (values c.args.signals.now (take k c.args.self.now.live)) in
     let e : c.loop-depth.depth ≡ g.C.Chart.arity c.args.self.now.chart.below = (let m = g.C.Chart.laws.small c.args.self.now.chart.below in omega (arith, c.count.ensures, length-take c.count.result c.args.self.now.live)) in
-    sym (value-bit f (values c.args.signals.now (take m d.live)) c.end.result (sym (subst T e c.loop-depth.invariant) ∙ c.end.ensures))
+    sym (value_bit f (values c.args.signals.now (take m d.live)) c.end.result (sym (subst T e c.loop-depth.invariant) ∙ c.end.ensures))
