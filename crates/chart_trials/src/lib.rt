@@ -3,15 +3,10 @@
 
 #[cfg(test)]
 mod tests {
-    use charts::{
-        BitChart, Chart, ChartRefusal, Inverting, Recoding, Stretch, number_classes, value_at,
-    };
+    use charts::{BitChart, Chart, Inverting, Recoding, Stretch, number_classes, value_at, walk};
     use std::test::Fail;
 
-    fn numbered(r: Result<(), ChartRefusal>) -> Result<(), u8> {
-        r.map_err(|refusal| refusal.number())
-    }
-
+    // Kept: a crate that only tests name is not found, so the tests of both kinds of charts have one of their own.
     fn recoded(
         chart: &mut BitChart,
         bound: usize,
@@ -19,12 +14,13 @@ mod tests {
         places: &[Stretch],
         class_of: &[usize],
     ) -> Result<(), u8> {
-        numbered(chart.recode(&Recoding {
+        let recoding = Recoding {
             bound,
             codes,
             places,
             class_of,
-        }))
+        };
+        chart.recode(&recoding).map_err(|refusal| refusal.number())
     }
 
     // x0 x1 + x2 x3: the entries 3, 7, 11 and 12 to 15
@@ -57,9 +53,12 @@ mod tests {
         let mut strip = [chart.top(); 4];
         assert_eq!(rt; number_classes(&chart, 2, &mut strip), Some(2));
         assert!(rt; chart.same(2, strip[1], walk(&chart, 2, 3)));
-        assert_eq!(rt; numbered(chart.swap(3)), Err(11));
-        assert_eq!(rt; numbered(chart.swap(usize::MAX)), Err(11));
-        assert_eq!(rt; numbered(chart.swap(1)), Ok(()));
+        assert_eq!(rt; chart.swap(3).map_err(|refusal| refusal.number()), Err(11));
+        assert_eq!(rt;
+            chart.swap(usize::MAX).map_err(|refusal| refusal.number()),
+            Err(11)
+        );
+        assert_eq!(rt; chart.swap(1).map_err(|refusal| refusal.number()), Ok(()));
         assert!(rt; !value_at(&chart, 10) && value_at(&chart, 12));
         assert_eq!(rt; number_classes(&chart, 2, &mut strip), Some(4));
         Ok(())
@@ -129,7 +128,10 @@ mod tests {
             return Err(Fail::new("four inputs refused"));
         };
         assert_eq!(rt; number_classes(&compared, 2, &mut strip), Some(4));
-        assert_eq!(rt; numbered(compared.swap(1)), Ok(()));
+        assert_eq!(rt;
+            compared.swap(1).map_err(|refusal| refusal.number()),
+            Ok(())
+        );
         assert_eq!(rt; number_classes(&compared, 2, &mut strip), Some(2));
         Ok(())
     }

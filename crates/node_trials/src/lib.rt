@@ -3,13 +3,10 @@
 
 #[cfg(test)]
 mod tests {
-    use charts::{Chart, ChartRefusal, Recoding, number_classes, value_at};
+    use charts::{Chart, Recoding, number_classes, value_at};
     use nodes::NodeChart;
 
-    fn numbered(r: Result<(), ChartRefusal>) -> Result<(), u8> {
-        r.map_err(|refusal| refusal.number())
-    }
-
+    // Kept: a crate that only tests name is not found, so the tests of both kinds of charts have one of their own.
     fn recoded(
         chart: &mut NodeChart,
         bound: usize,
@@ -17,12 +14,13 @@ mod tests {
         places: &[usize],
         class_of: &[usize],
     ) -> Result<(), u8> {
-        numbered(chart.recode(&Recoding {
+        let recoding = Recoding {
             bound,
             codes,
             places,
             class_of,
-        }))
+        };
+        chart.recode(&recoding).map_err(|refusal| refusal.number())
     }
 
     // Two arguments more in front: 1 where both are 1, and else what the chart means.
@@ -40,9 +38,9 @@ mod tests {
         }
         assert_eq!(rt; chart.size(), 6);
         assert!(rt; value_at(&chart, 48) && value_at(&chart, 3) && !value_at(&chart, 42));
-        assert_eq!(rt; numbered(chart.swap(1)), Ok(()));
-        assert_eq!(rt; numbered(chart.swap(3)), Ok(()));
-        assert_eq!(rt; numbered(chart.swap(2)), Ok(()));
+        assert_eq!(rt; chart.swap(1).map_err(|refusal| refusal.number()), Ok(()));
+        assert_eq!(rt; chart.swap(3).map_err(|refusal| refusal.number()), Ok(()));
+        assert_eq!(rt; chart.swap(2).map_err(|refusal| refusal.number()), Ok(()));
         assert_eq!(rt; chart.size(), 14);
         assert!(rt; value_at(&chart, 36) && value_at(&chart, 9) && !value_at(&chart, 56));
     }
@@ -56,9 +54,12 @@ mod tests {
         assert_eq!(rt; chart.size(), 9);
         let mut strip = [0; 4];
         assert_eq!(rt; number_classes(&chart, 2, &mut strip), Some(4));
-        assert_eq!(rt; numbered(chart.swap(3)), Err(11));
-        assert_eq!(rt; numbered(chart.swap(usize::MAX)), Err(11));
-        assert_eq!(rt; numbered(chart.swap(1)), Ok(()));
+        assert_eq!(rt; chart.swap(3).map_err(|refusal| refusal.number()), Err(11));
+        assert_eq!(rt;
+            chart.swap(usize::MAX).map_err(|refusal| refusal.number()),
+            Err(11)
+        );
+        assert_eq!(rt; chart.swap(1).map_err(|refusal| refusal.number()), Ok(()));
         assert_eq!(rt; chart.size(), 6);
         assert_eq!(rt; number_classes(&chart, 2, &mut strip), Some(2));
     }
