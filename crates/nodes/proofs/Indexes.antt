@@ -1,7 +1,7 @@
 -- The index by hash of a store, and the walk along a bucket.
-use Rattle.std.proofs.Common.{◌≡◌, ℕ, ◌+◌, ◌-◌, ◌<◌, ◌≤◌, ◌≢◌, List, Option, None, Some, unwrap_or, length, get_or, take, set, replicate, sym, refl, ap, ◌∙◌, subst, ⊎_elim, arith}
+use Rattle.std.proofs.Common.{◌≡◌, ℕ, ◌+◌, ◌-◌, ◌<◌, ◌≤◌, ◌≢◌, List, [], ◌∷◌, ◌++◌, Option, None, Some, unwrap_or, length, get_or, take, set, replicate, sym, refl, ap, ◌∙◌, subst, ⊎_elim, arith}
 use Rattle.std.proofs.lemmas.Bool.{cases_lt, cases_eq}
-use Rattle.std.proofs.lemmas.List.{get_or-set_same, get_or-set_other, get_or-replicate, get_or_past, get_or-take, length-replicate}
+use Rattle.std.proofs.lemmas.List.{get_or-set_same, get_or-set_other, get_or-replicate, get_or_past, get_or-take, get_or_append_left, get_or_push, length-replicate}
 use Rattle.nodes.specs.declared.node.Node.{Node}
 use Rattle.nodes.specs.Diagrams.{at, blank}
 use Rattle.nodes.specs.Buckets.{hash, head, link, Indexed}
@@ -22,6 +22,14 @@ pub at_new : (xs : List Node) (c : ℕ) (node : Node) (n : ℕ) → c < length x
 at_new xs c node n h k =
     let e : n - 2 ≡ c = omega arith in
     rw e (get_or-set_same xs c node blank h)
+
+-- the nodes after one put behind them
+pub at_old_push : (xs : List Node) (node : Node) (n : ℕ) → 2 ≤ n → n < length xs + 2 → at (xs ++ (node ∷ [])) n ≡ at xs n
+at_old_push xs node n h k = get_or_append_left xs (node ∷ []) blank (n - 2) (omega arith)
+
+-- and that one
+pub at_new_push : (xs : List Node) (node : Node) (n : ℕ) → n ≡ length xs + 2 → at (xs ++ (node ∷ [])) n ≡ node
+at_new_push xs node n e = get_or_push xs node blank (n - 2) (omega arith)
 
 -- an entry after a write
 data Write (xs : List (Option ℕ)) (b : ℕ) (v : Option ℕ) (q : ℕ) : Type 0 where

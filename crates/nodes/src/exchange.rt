@@ -1,4 +1,4 @@
-ghost use Rattle.std.specs.Prelude.{◌≡◌, ◌+◌, ◌*◌, ◌<◌};
+ghost use Rattle.std.specs.Prelude.{◌≡◌, ◌+◌, ◌*◌, ◌<◌, length};
 ghost use Rattle.functions.specs.Functions.{exchanged};
 ghost use Rattle.nodes.specs.Diagrams.{at, down};
 ghost use Rattle.nodes.specs.Exchanges.{num, Trio, Trios};
@@ -77,8 +77,8 @@ fn parted(chart: &NodeChart, p: u8, i: usize) -> Three
 fn spread_out(chart: &NodeChart, p: u8) -> Raw
     requires { p < 16 }
     ensures arity { result.arity ≡ chart.now.arity }
-    ensures count { result.count ≡ 3 * chart.now.count }
-    ensures trios { Trios chart.now.nodes p (chart.now.count + 2) result.nodes }
+    ensures count { length result.nodes.items ≡ 3 * chart.now.count }
+    ensures trios { Trios chart.now.nodes p (chart.now.count + 2) result.nodes.items }
 {
     let mut raw = Raw::new(chart.arity);
     for i in 0..chart.count {

@@ -1,4 +1,4 @@
-ghost use Rattle.std.specs.Prelude.{◌≡◌, ℕ, ◌+◌, ◌-◌, ◌^◌, ◌<◌, ◌≤◌, map, slice_index};
+ghost use Rattle.std.specs.Prelude.{◌≡◌, ℕ, ◌+◌, ◌-◌, ◌^◌, ◌<◌, ◌≤◌, length, map, slice_index};
 ghost use Rattle.functions.specs.Functions.{recoded};
 ghost use Rattle.charts.specs.Changes.{IsInRange};
 ghost use Rattle.nodes.specs.Diagrams.{node, blank};
@@ -32,9 +32,9 @@ fn shifted(chart: &NodeChart, b: u8, j: u8) -> Raw
     requires front { b ≤ chart.now.arity }
     requires small { chart.now.arity - b + j ≤ 16 }
     ensures arity { result.arity ≡ chart.now.arity - b + j }
-    ensures all { b < chart.now.arity → result.count ≡ chart.now.count }
-    ensures none { b ≡ chart.now.arity → result.count ≡ 0 }
-    ensures shifts { b < chart.now.arity → Shifts chart.now.nodes b j (chart.now.count + 2) result.nodes }
+    ensures all { b < chart.now.arity → length result.nodes.items ≡ chart.now.count }
+    ensures none { b ≡ chart.now.arity → length result.nodes.items ≡ 0 }
+    ensures shifts { b < chart.now.arity → Shifts chart.now.nodes b j (chart.now.count + 2) result.nodes.items }
 {
     let mut raw = Raw::new(chart.arity - usize::from(b) + usize::from(j));
     if usize::from(b) < chart.arity {

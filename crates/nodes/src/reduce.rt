@@ -4,10 +4,11 @@ ghost use Rattle.nodes.specs.Marks.{Spread, renamed};
 
 use super::node::Node;
 use super::node_chart::NodeChart;
+use super::raw::MOST_NODES;
 use super::store::{Full, Store};
 
-/// The most numbers of an unreduced diagram: two ends, and three nodes for each of a chart's.
-pub(crate) const SPAN: usize = 3074;
+/// The most numbers of an unreduced diagram: those of the two ends and of the nodes.
+pub(crate) const SPAN: usize = MOST_NODES + 2;
 
 /// Marks the children of a node.
 pub(crate) fn spread(marks: &mut [bool; SPAN], node: Node)
