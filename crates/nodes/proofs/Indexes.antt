@@ -3,7 +3,7 @@ use Rattle.std.proofs.Common.{◌≡◌, ℕ, ◌+◌, ◌-◌, ◌<◌, ◌≤�
 use Rattle.std.proofs.lemmas.Bool.{cases_lt, cases_eq}
 use Rattle.std.proofs.lemmas.List.{get_or-set_same, get_or-set_other, get_or-replicate, get_or_past, get_or-take, get_or_append_left, get_or_push, length-replicate}
 use Rattle.nodes.specs.declared.node.Node.{Node}
-use Rattle.nodes.specs.Diagrams.{at, blank}
+use Rattle.nodes.specs.Diagrams.{at, blank, Ordered}
 use Rattle.nodes.specs.Buckets.{hash, head, link, Indexed}
 
 -- the node at the index i
@@ -12,6 +12,13 @@ at-index xs i = let e : i + 2 - 2 ≡ i = omega arith in rw e refl
 
 pub at-front : (xs : List Node) (c i : ℕ) → i < c → at xs (i + 2) ≡ get_or (take c xs) i blank
 at-front xs c i h = at-index xs i ∙ sym (get_or-take c xs i blank h)
+
+-- whose children have smaller numbers
+pub front-children : (m : ℕ) (xs : List Node) (c i : ℕ) → Ordered m xs c → i < c → ((get_or (take c xs) i blank).low < i + 2) × ((get_or (take c xs) i blank).high < i + 2)
+front-children m xs c i o h =
+    let p = o (i + 2) (omega arith) (omega arith) in
+    let P : Node → Type 0 = λ y. (y.low < i + 2) × (y.high < i + 2) in
+    subst P (at-front xs c i h) (p.1, p.2)
 
 -- the nodes after a write behind them
 pub at_old : (xs : List Node) (c : ℕ) (node : Node) (n : ℕ) → 2 ≤ n → n < c + 2 → at (set xs c node) n ≡ at xs n

@@ -50,12 +50,14 @@ fn led(chart: &NodeChart, value: bool, var: u8, n: u16) -> u16
 }
 
 /// The nodes for the node at `i` once `p` and `p` + 1 are exchanged.
-fn parted(chart: &NodeChart, p: u8, i: usize) -> Three
+fn parted(chart: &NodeChart, p: u8, i: usize, node: Node) -> Three
     requires there { i < chart.now.count }
     requires small { p < 16 }
+    requires is { node ≡ at chart.now.nodes (i + 2) }
+    requires low { node.low < i + 2 }
+    requires high { node.high < i + 2 }
     ensures { Trio chart.now.nodes p (i + 2) result.a result.b result.c }
 {
-    let node = read(chart, i);
     if node.var == p {
         let low = led(chart, false, p + 1, node.low);
         let high = led(chart, false, p + 1, node.high);
@@ -81,8 +83,8 @@ fn spread_out(chart: &NodeChart, p: u8) -> Raw
     ensures trios { Trios chart.now.nodes p (chart.now.count + 2) result.nodes.items }
 {
     let mut raw = Raw::new(chart.arity);
-    for i in 0..chart.count {
-        let Three { a, b, c } = parted(chart, p, i);
+    for (i, node) in chart.nodes[..chart.count].iter().enumerate() {
+        let Three { a, b, c } = parted(chart, p, i, *node);
         raw.push(a);
         raw.push(b);
         raw.push(c);

@@ -1,6 +1,5 @@
-use Rattle.std.proofs.Common.{◌+◌, ◌<◌, subst, arith}
-use Rattle.nodes.specs.declared.node.Node.{Node}
-use Rattle.nodes.proofs.Indexes.{at-front, get_or-copies}
+use Rattle.std.proofs.Common.{arith}
+use Rattle.nodes.proofs.Indexes.{front-children, get_or-copies}
 use Rattle.nodes.proofs.Naming.{names_more}
 use Rattle.nodes.proofs.draft.Draft.named.Goals as goal
 
@@ -10,12 +9,8 @@ loop-node-init c = λ n. get_or-copies 3074 n _
 pub spread-requires : goal.spread-requires
 spread-requires c =
     let d = c.args.self.now in
-    let i = c.loop-node.node-index in
-    let p = d.ordered (i + 2) (omega arith) (omega arith) in
-    let e = at-front d.store.nodes d.store.count i (omega arith) in
-    let P : Node → Type 0 = λ y. y.low < i + 2 in
-    let Q : Node → Type 0 = λ y. y.high < i + 2 in
-    record { low = omega (arith, subst P e p.1); high = omega (arith, subst Q e p.2) }
+    let p = front-children d.arity d.store.nodes d.store.count c.loop-node.node-index d.ordered (omega arith) in
+    record { low = omega (arith, p.0); high = omega (arith, p.1) }
 
 pub loop-node-preserved : goal.loop-node-preserved
 loop-node-preserved c =
