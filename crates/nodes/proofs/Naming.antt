@@ -1,6 +1,7 @@
 -- The nodes that others name, and the smallest that none names.
-use Rattle.std.proofs.Common.{◌≡◌, ℕ, zero, suc, ◌+◌, ◌-◌, ◌<◌, ◌≤◌, Bool, true, false, cond, not, ◌||◌, eqb, ◌⊎◌, List, [], ◌∷◌, ◌++◌, length, get_or, take, drop, Some, None, Decides, Option, sym, refl, ap, ◌∙◌, subst, inl, inr, ⊎_elim, arith}
-use Rattle.std.specs.List.{HoldsAt, find, range_with_len}
+use Rattle.std.proofs.Common.{◌≡◌, ℕ, zero, suc, ◌+◌, ◌-◌, ◌<◌, ◌≤◌, Bool, true, false, cond, not, ◌||◌, eqb, ◌⊎◌, List, [], ◌∷◌, ◌++◌, length, get_or, take, drop, Some, None, Decides, Option, option_map, sym, refl, ap, ◌∙◌, subst, inl, inr, ⊎_elim, arith}
+use Rattle.std.specs.List.{HoldsAt, position, position_from}
+use Rattle.std.proofs.lemmas.Iterator.Adapters.{position_from-zero}
 use Rattle.std.proofs.lemmas.List.{at_drop_more, at_drop_all, drop_all, drop_more, get_or-drop, get_or-take, length-drop, length-take-le, take-append-drop, take_more}
 use Rattle.std.proofs.lemmas.Bool.{cases_Bool, cases_lt, cond-true, cond-false, eqb-true, eq-eqb, or_cases, or_left, or_right, true≢false}
 use Rattle.std.proofs.lemmas.Bool.Decides.{Decides-by_or, Decides-or, Decides-eqb}
@@ -104,18 +105,38 @@ module _ (m : ℕ) (xs : List Node) (c : ℕ) (room : c ≤ length xs) (o : Orde
       ∙ ap (λ (t : Bool). cond t (unnamed (n + 1) (drop (n - 2 + 1) ys)) (Some n)) (ap (λ (k : ℕ). names n (drop k ys)) j ∙ later m xs c room o n two (omega arith) ∙ e)
       ∙ ap (λ (k : ℕ). cond b (unnamed (n + 1) (drop k ys)) (Some n)) i
 
+-- places that count from two more
+position_from-added : (i : ℕ) (bs : List Bool) → option_map (λ k. k + 2) (position_from not i bs) ≡ position_from not (i + 2) bs
+position_from-added i [] = refl
+position_from-added i (b ∷ bs) = by b (position_from-added (i + 1) bs)
+  where
+    by : (b : Bool) → option_map (λ k. k + 2) (position_from not (i + 1) bs) ≡ position_from not (i + 1 + 2) bs → option_map (λ k. k + 2) (cond (not b) (Some i) (position_from not (i + 1) bs)) ≡ cond (not b) (Some (i + 2)) (position_from not (i + 2 + 1) bs)
+    by false h = refl
+    by true h = let e : i + 1 + 2 ≡ i + 2 + 1 = omega arith in h ∙ ap (λ k. position_from not k bs) e
+
 -- the search from n on, by marks on the numbers that the nodes name
-module _ (m : ℕ) (xs : List Node) (c : ℕ) (room : c ≤ length xs) (o : Ordered m xs c) (marks : List Bool) (named : (n : ℕ) → get_or marks n false ≡ names n (take c xs)) where
-  pub find-unnamed : (k n : ℕ) → 2 ≤ n → k ≡ c + 1 - n → find (λ z. not (get_or marks z false)) (range_with_len n k) ≡ unnamed n (drop (n - 2) (take c xs))
-  find-unnamed zero n two e = sym (unnamed-none (take c xs) n (n - 2) (omega (arith, length_draft xs c room)))
-  find-unnamed (suc k) n two e = go (get_or marks n false) refl (find-unnamed k (n + 1) (omega arith) (omega arith))
+module _ (m : ℕ) (xs : List Node) (c : ℕ) (room : c ≤ length xs) (o : Ordered m xs c) (marks : List Bool) (long : c + 1 ≤ length marks) (named : (n : ℕ) → get_or marks n false ≡ names n (take c xs)) where
+  position-unnamed : (k n : ℕ) → 2 ≤ n → k ≡ c + 1 - n → position_from not n (drop n (take (c + 1) marks)) ≡ unnamed n (drop (n - 2) (take c xs))
+  position-unnamed zero n two e =
+      at_drop_all (position_from not n) (take (c + 1) marks) n (omega (arith, length-take-le (c + 1) marks long))
+      ∙ sym (unnamed-none (take c xs) n (n - 2) (omega (arith, length_draft xs c room)))
+  position-unnamed (suc k) n two e =
+      at_drop_more (position_from not n) (take (c + 1) marks) n false (omega (arith, length-take-le (c + 1) marks long))
+      ∙ ap (λ (b : Bool). cond (not b) (Some n) rest) (get_or-take (c + 1) marks n false (omega arith))
+      ∙ go (get_or marks n false) refl (position-unnamed k (n + 1) (omega arith) (omega arith))
     where
       rest : Option ℕ
-      rest = find (λ z. not (get_or marks z false)) (range_with_len (n + 1) k)
+      rest = position_from not (n + 1) (drop (n + 1) (take (c + 1) marks))
 
       go : (b : Bool) → get_or marks n false ≡ b → rest ≡ unnamed (n + 1) (drop (n + 1 - 2) (take c xs)) → cond (not b) (Some n) rest ≡ unnamed n (drop (n - 2) (take c xs))
       go true h f = f ∙ sym (turn m xs c room o n two (omega arith) true (sym (named n) ∙ h))
       go false h f = sym (turn m xs c room o n two (omega arith) false (sym (named n) ∙ h))
+
+  -- the first place after the ends without a mark
+  pub first-unnamed : (r : Option ℕ) → r ≡ position not (drop 2 (take (c + 1) marks)) → option_map (λ i. i + 2) r ≡ unnamed 2 (take c xs)
+  first-unnamed r is =
+      let ms = drop 2 (take (c + 1) marks) in
+      ap (option_map (λ i. i + 2)) (is ∙ position_from-zero not ms) ∙ position_from-added 0 ms ∙ position-unnamed (c + 1 - 2) 2 (omega arith) refl
 
 -- where there is none, each node but the last has a later one that names it
 named-at : (n : ℕ) (ys : List Node) → unnamed n ys ≡ None → (j : ℕ) → suc j < length ys → names (n + j) (drop (suc j) ys) ≡ true

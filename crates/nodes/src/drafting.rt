@@ -114,7 +114,9 @@ impl Draft {
         ensures { result ≡ unnamed 2 (drafted self.now) }
     {
         let marks = self.named();
-        (2..self.store.count + 1).find(|n| !marks[*n])
+        let marks = &marks[..self.store.count + 1];
+        let first = marks.iter().skip(2).position(|marked| !*marked);
+        first.map(|i| i + 2)
     }
 
     /// The number of the last node, or of the end `one` where there is no node.
