@@ -62,6 +62,7 @@ impl Unreduced<'_> {
     {
         let mut marks = [false; SPAN];
         marks[usize::from(self.root)] = true;
+        // Kept: a mark is read by its number, as the loop writes the marks that it reads.
         for (i, node) in self.nodes.iter().enumerate().rev() {
             if is_marked(&marks, i) {
                 spread(&mut marks, *node);
@@ -79,6 +80,7 @@ impl Unreduced<'_> {
         let mut store = Store::new();
         let mut new = [0; SPAN];
         new[1] = 1;
+        // Kept: a mark is read by its number. As a `zip` the proof did not close: no invariant there can name the marks.
         for (i, old) in self.nodes.iter().enumerate() {
             if is_marked(&marks, i) {
                 new[i + 2] = store.make(renamed(*old, &new))?;
