@@ -7,7 +7,7 @@ use Rattle.functions.specs.Functions.{Fn, bit, exchanged}
 use Rattle.nodes.specs.Diagrams.{at, down, mean, level, Placed, Ordered, node}
 use Rattle.nodes.specs.Exchanges.{num, Trio, split, lift, plain, Trios}
 use Rattle.nodes.proofs.Canonical.{Look, stands, passes, look, level-end, level-node, step}
-use Rattle.nodes.proofs.Indexes.{at_old_push, at_new_push}
+use Rattle.nodes.proofs.Indexes.{at_old, at_new}
 use Rattle.nodes.proofs.Grown.{down_less, placed}
 
 module _ (ys : List Node) (a b c : Node) (ys' : List Node) (e : ys' ≡ ((ys ++ (a ∷ [])) ++ (b ∷ [])) ++ (c ∷ [])) where
@@ -19,16 +19,16 @@ module _ (ys : List Node) (a b c : Node) (ys' : List Node) (e : ys' ≡ ((ys ++ 
   three-long = (length_push ys a, omega (arith, length_push ys a, length_push (ys ++ (a ∷ [])) b))
 
   three_below : (n : ℕ) → 2 ≤ n → n < length ys + 2 → at ys' n ≡ at ys n
-  three_below n two h = let l = three-long in three-at n ∙ at_old_push _ c n two (omega (arith, l.1)) ∙ at_old_push _ b n two (omega (arith, l.0)) ∙ at_old_push ys a n two h
+  three_below n two h = let l = three-long in three-at n ∙ at_old _ c n two (omega (arith, l.1)) ∙ at_old _ b n two (omega (arith, l.0)) ∙ at_old ys a n two h
 
   three_a : (n : ℕ) → n ≡ length ys + 2 → at ys' n ≡ a
-  three_a n h = let l = three-long in three-at n ∙ at_old_push _ c n (omega arith) (omega (arith, l.1)) ∙ at_old_push _ b n (omega arith) (omega (arith, l.0)) ∙ at_new_push ys a n h
+  three_a n h = let l = three-long in three-at n ∙ at_old _ c n (omega arith) (omega (arith, l.1)) ∙ at_old _ b n (omega arith) (omega (arith, l.0)) ∙ at_new ys a n h
 
   three_b : (n : ℕ) → n ≡ length ys + 3 → at ys' n ≡ b
-  three_b n h = let l = three-long in three-at n ∙ at_old_push _ c n (omega arith) (omega (arith, l.1)) ∙ at_new_push _ b n (omega (arith, l.0))
+  three_b n h = let l = three-long in three-at n ∙ at_old _ c n (omega arith) (omega (arith, l.1)) ∙ at_new _ b n (omega (arith, l.0))
 
   three_c : (n : ℕ) → n ≡ length ys + 4 → at ys' n ≡ c
-  three_c n h = let l = three-long in three-at n ∙ at_new_push _ c n (omega (arith, l.1))
+  three_c n h = let l = three-long in three-at n ∙ at_new _ c n (omega (arith, l.1))
 
 trio_is : {xs : List Node} {p n : ℕ} {a b c a' b' c' : Node} → a' ≡ a → b' ≡ b → c' ≡ c → Trio xs p n a b c → Trio xs p n a' b' c'
 trio_is {xs} {p} {n} {a} {b} {c} {a'} {b'} {c'} ea eb ec (split v x y z) = split v (ea ∙ x) (eb ∙ y) (ec ∙ z)

@@ -8,7 +8,7 @@ use Rattle.functions.proofs.Rows.{rows_same}
 use Rattle.nodes.specs.Diagrams.{at, mean, level, Ordered}
 use Rattle.nodes.specs.Recodes.{chosen, Leaves, Topped}
 use Rattle.nodes.proofs.Canonical.{level-node}
-use Rattle.nodes.proofs.Indexes.{at_old_push, at_new_push}
+use Rattle.nodes.proofs.Indexes.{at_old, at_new}
 use Rattle.nodes.proofs.Grown.{Agree, Above, mean-agree, level-agree, ordered_grown}
 use Rattle.nodes.proofs.Making.{mean_stands}
 
@@ -96,8 +96,8 @@ module _ (leaves : List ℕ) (half : ℕ) (lo hi : List ℕ) (loe : lo ≡ take 
       let yl : y.low ≡ r1 = ap (λ (z : Node). z.low) ye in
       let yh : y.high ≡ r2 = ap (λ (z : Node). z.high) ye in
       let jm = l.arity in
-      let g : Agree zs ws c2 = λ n two less. ap (λ (z : List Node). at z n) we ∙ at_old_push zs y n two (omega arith) in
-      let new : at ws (c2 + 2) ≡ y = ap (λ (z : List Node). at z (c2 + 2)) we ∙ at_new_push zs y (c2 + 2) (omega arith) in
+      let g : Agree zs ws c2 = λ n two less. ap (λ (z : List Node). at z n) we ∙ at_old zs y n two (omega arith) in
+      let new : at ws (c2 + 2) ≡ y = ap (λ (z : List Node). at z (c2 + 2)) we ∙ at_new zs y (c2 + 2) (omega arith) in
       let la = level-agree ys zs c1 t2.agree m r1 t1.there_is in
       let el = ap (λ (z : ℕ). level m zs z) yl in
       let eh = ap (λ (z : ℕ). level m zs z) yh in

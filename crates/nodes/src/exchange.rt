@@ -27,18 +27,18 @@ fn tripled(n: u16) -> u16
 
 /// The node at `i`, whose children have smaller numbers.
 fn read(chart: &NodeChart, i: usize) -> Node
-    requires { i < chart.now.count }
-    ensures is { result ≡ at chart.now.nodes (i + 2) }
+    requires { i < length chart.now.nodes.items }
+    ensures is { result ≡ at chart.now.nodes.items (i + 2) }
     ensures low { result.low < i + 2 }
     ensures high { result.high < i + 2 }
 {
-    chart.nodes[i]
+    chart.nodes.as_slice()[i]
 }
 
 /// Where the value of the variable `var` leads from `n`, tripled.
 fn led(chart: &NodeChart, value: bool, var: u8, n: u16) -> u16
-    requires { n < chart.now.count + 2 }
-    ensures { result ≡ num (down value chart.now.nodes var n) }
+    requires { n < length chart.now.nodes.items + 2 }
+    ensures { result ≡ num (down value chart.now.nodes.items var n) }
 {
     if n > 1 {
         let node = read(chart, usize::from(n) - 2);
@@ -51,12 +51,12 @@ fn led(chart: &NodeChart, value: bool, var: u8, n: u16) -> u16
 
 /// The nodes for the node at `i` once `p` and `p` + 1 are exchanged.
 fn parted(chart: &NodeChart, p: u8, i: usize, node: Node) -> Three
-    requires there { i < chart.now.count }
+    requires there { i < length chart.now.nodes.items }
     requires small { p < 16 }
-    requires is { node ≡ at chart.now.nodes (i + 2) }
+    requires is { node ≡ at chart.now.nodes.items (i + 2) }
     requires low { node.low < i + 2 }
     requires high { node.high < i + 2 }
-    ensures { Trio chart.now.nodes p (i + 2) result.a result.b result.c }
+    ensures { Trio chart.now.nodes.items p (i + 2) result.a result.b result.c }
 {
     if node.var == p {
         let low = led(chart, false, p + 1, node.low);
@@ -79,11 +79,11 @@ fn parted(chart: &NodeChart, p: u8, i: usize, node: Node) -> Three
 fn spread_out(chart: &NodeChart, p: u8) -> Raw
     requires { p < 16 }
     ensures arity { result.arity ≡ chart.now.arity }
-    ensures count { length result.nodes.items ≡ 3 * chart.now.count }
-    ensures trios { Trios chart.now.nodes p (chart.now.count + 2) result.nodes.items }
+    ensures count { length result.nodes.items ≡ 3 * length chart.now.nodes.items }
+    ensures trios { Trios chart.now.nodes.items p (length chart.now.nodes.items + 2) result.nodes.items }
 {
     let mut raw = Raw::new(chart.arity);
-    for (i, node) in chart.nodes[..chart.count].iter().enumerate() {
+    for (i, node) in chart.nodes.as_slice().iter().enumerate() {
         let Three { a, b, c } = parted(chart, p, i, *node);
         raw.push(a);
         raw.push(b);

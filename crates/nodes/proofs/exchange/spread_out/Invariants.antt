@@ -6,5 +6,5 @@ abbrev pub invariant-loop-i : goal.invariant-loop-i
 invariant-loop-i l = record {
   arity : l.raw.arity ≡ l.chart.arity;
   count : length l.raw.nodes.items ≡ 3 * l.i;
-  trios : Trios l.chart.nodes l.p (l.i + 2) l.raw.nodes.items;
+  trios : Trios l.chart.nodes.items l.p (l.i + 2) l.raw.nodes.items;
 }

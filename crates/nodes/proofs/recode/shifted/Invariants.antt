@@ -6,5 +6,5 @@ abbrev pub invariant-loop-old : goal.invariant-loop-old
 invariant-loop-old l = record {
   arity : l.raw.arity ≡ l.chart.arity - l.b + l.j;
   count : length l.raw.nodes.items ≡ l.old-index;
-  shifts : Shifts l.chart.nodes l.b l.j (l.old-index + 2) l.raw.nodes.items;
+  shifts : Shifts l.chart.nodes.items l.b l.j (l.old-index + 2) l.raw.nodes.items;
 }
