@@ -1,7 +1,7 @@
 -- Drafts: what the tests of one node more tell, and what a draft is after it.
-use Rattle.std.proofs.Common.{◌≡◌, ℕ, ◌+◌, ◌-◌, ◌<◌, ◌≤◌, true, false, ◌||◌, eqb, ltb, List, [], ◌∷◌, ◌++◌, length, get_or, take, Ok, Err, Decides, Result, sym, refl, ap, ◌∙◌, subst, inl, inr, arith, MatchResult}
+use Rattle.std.proofs.Common.{◌≡◌, ℕ, ◌+◌, ◌-◌, ◌<◌, ◌≤◌, true, false, ◌||◌, eqb, ltb, List, [], ◌∷◌, ◌++◌, length, get_or, Ok, Err, Decides, Result, sym, refl, ap, ◌∙◌, subst, inl, inr, arith, MatchResult}
 use Rattle.std.specs.List.{HoldsAt}
-use Rattle.std.proofs.lemmas.List.{get_or_default, length-take-le, take_more_set}
+use Rattle.std.proofs.lemmas.List.{get_or_default, length_push}
 use Rattle.std.proofs.lemmas.Bool.{and_parts, and_from, or_left, or_right, or_from, cases_Bool, cond-true, cond-false, eqb-true, eq-eqb, ne_eqb, ltb-true}
 use Rattle.std.proofs.lemmas.Bool.Decides.{Decides-by_or}
 use Rattle.nodes.specs.declared.node.Node.{Node}
@@ -13,7 +13,7 @@ use Rattle.nodes.specs.Stores.{Absent, Did, dropped, there, pushed}
 use Rattle.nodes.specs.Drafts.{below, in_place, same_node, among, fits, repeated, verdict}
 use Rattle.nodes.proofs.Canonical.{same}
 use Rattle.nodes.proofs.Indexes.{at_old, at_new}
-use Rattle.nodes.proofs.Grown.{Agree, Above, level-agree, ordered_grown, reduced_grown, front-agree}
+use Rattle.nodes.proofs.Grown.{Agree, Above, ordered_grown, reduced_grown}
 
 -- the test for one node among others
 same_decides : (y x : Node) → Decides (same_node x y) (x ≡ y)
@@ -29,23 +29,17 @@ same_decides y x = (
 among_decides : (y : Node) (ys : List Node) → Decides (among y ys) ((k : ℕ) × (k < length ys) × HoldsAt (λ x. x ≡ y) ys k)
 among_decides y = Decides-by_or (λ x. same_node x y) (λ x. x ≡ y) (among y) (same_decides y) refl (λ _ _. refl)
 
--- the first c nodes by themselves
-module _ (xs : List Node) (c : ℕ) (room : c ≤ length xs) where
-  pub length_draft : length (take c xs) ≡ c
-  length_draft = length-take-le c xs room
-
-  pub level_draft : (m n : ℕ) → n < c + 2 → level m (take c xs) n ≡ level m xs n
-  level_draft m n less = level-agree xs (take c xs) c (front-agree xs c room) m n less
-
+-- the nodes so far
+module _ (xs : List Node) where
   -- a child in its place
-  below_parts : (m v n : ℕ) → below m (take c xs) v n ≡ true → (n < c + 2) × (v < level m xs n)
+  below_parts : (m v n : ℕ) → below m xs v n ≡ true → (n < length xs + 2) × (v < level m xs n)
   below_parts m v n e =
-      let p = and_parts (ltb n (length (take c xs) + 2)) (ltb v (level m (take c xs) n)) e in
-      let less : n < c + 2 = omega (arith, ltb-true n (length (take c xs) + 2) p.0, length_draft) in
-      (less, omega (arith, ltb-true v (level m (take c xs) n) p.1, level_draft m n less))
+      let p = and_parts (ltb n (length xs + 2)) (ltb v (level m xs n)) e in
+      let less : n < length xs + 2 = omega (arith, ltb-true n (length xs + 2) p.0) in
+      (less, omega (arith, ltb-true v (level m xs n) p.1))
 
   -- a node in its place may stand above the others
-  pub above_draft : (m : ℕ) (y : Node) → in_place m (take c xs) y ≡ true → Above m xs c y
+  pub above_draft : (m : ℕ) (y : Node) → in_place m xs y ≡ true → Above m xs (length xs) y
   above_draft m y e =
       let p = and_parts _ _ e in
       let q = and_parts _ _ p.1 in
@@ -54,21 +48,21 @@ module _ (xs : List Node) (c : ℕ) (room : c ≤ length xs) where
       record { within = ltb-true y.var m p.0; low-there = l.0; high-there = h.0; low-later = l.1; high-later = h.1 }
 
   -- a node that is there
-  there-among : (y : Node) (n : ℕ) → 2 ≤ n → n < c + 2 → at xs n ≡ y → among y (take c xs) ≡ true
+  there-among : (y : Node) (n : ℕ) → 2 ≤ n → n < length xs + 2 → at xs n ≡ y → among y xs ≡ true
   there-among y n two less e =
-      let k : n - 2 < length (take c xs) = omega (arith, length_draft) in
-      (among_decides y (take c xs)).1 (n - 2, k, λ d. get_or_default (take c xs) (n - 2) d blank k ∙ front-agree xs c room n two less ∙ e)
+      let k : n - 2 < length xs = omega arith in
+      (among_decides y xs).1 (n - 2, k, λ d. get_or_default xs (n - 2) d blank k ∙ e)
 
   -- and one that is not
-  absent_among : (y : Node) → Absent xs c y → among y (take c xs) ≡ false
-  absent_among y none = elim (cases_Bool (among y (take c xs))) [
+  absent_among : (y : Node) → Absent xs (length xs) y → among y xs ≡ false
+  absent_among y none = elim (cases_Bool (among y xs)) [
     | inr e ↦ e
     | inl e ↦
-        let w = (among_decides y (take c xs)).0 e in
+        let w = (among_decides y xs).0 e in
         let k = w.0 in
-        let less : k < c = omega (arith, w.1, length_draft) in
+        let less : k < length xs = omega (arith, w.1) in
         let i : k + 2 - 2 ≡ k = omega arith in
-        absurd (none (k + 2) (omega arith) (omega arith) (sym (front-agree xs c room (k + 2) (omega arith) (omega arith)) ∙ ap (λ (j : ℕ). get_or (take c xs) j blank) i ∙ w.2 blank))
+        absurd (none (k + 2) (omega arith) (omega arith) (ap (λ (j : ℕ). get_or xs j blank) i ∙ w.2 blank))
   ]
 
 -- the verdicts on a node in its place
@@ -80,35 +74,29 @@ verdict-fits m ys y e apart none = cond-true _ _ _ e ∙ cond-false _ _ _ (or_fr
 
 -- the nodes of a store
 abbrev pub stored : Store → List Node
-stored s = take s.count s.nodes
+stored s = s.nodes.items
 
 -- what a draft keeps of its store
 pub record Sound (m : ℕ) (s : Store) : Type 0 where
-  pub ordered : Ordered m s.nodes s.count
-  pub proper : Proper s.nodes s.count
-  pub single : Single s.nodes s.count
+  pub ordered : Ordered m s.nodes.items (length s.nodes.items)
+  pub proper : Proper s.nodes.items (length s.nodes.items)
+  pub single : Single s.nodes.items (length s.nodes.items)
 
 pub sound_of : (d : Draft) → Sound d.arity d.store
 sound_of d = record { ordered = d.ordered; proper = d.proper; single = d.single }
 
 -- what came of a node in its place: it repeats, and nothing changed, or it is the last of the nodes
 pub data Came (m : ℕ) (s t : Store) (y : Node) (n : ℕ) : Type 0 where
-  again : n < s.count + 2 → verdict m (stored s) y ≡ repeated → stored t ≡ stored s → Came m s t y n
-  last : n ≡ s.count + 2 → verdict m (stored s) y ≡ fits → length (stored s) < 1024 → stored t ≡ stored s ++ (y ∷ []) → Came m s t y n
+  again : n < length s.nodes.items + 2 → verdict m (stored s) y ≡ repeated → stored t ≡ stored s → Came m s t y n
+  last : n ≡ length s.nodes.items + 2 → verdict m (stored s) y ≡ fits → length (stored s) < 1024 → stored t ≡ stored s ++ (y ∷ []) → Came m s t y n
 
 module _ (m : ℕ) (s t : Store) (y : Node) (o : Sound m s) (ok : in_place m (stored s) y ≡ true) where
-  within : s.count ≤ length s.nodes
-  within = omega arith
-
   pub came : (n : ℕ) → Did s t y n → Came m s t y n
   came n (dropped e q r) =
-      let a = above_draft s.nodes s.count within m y ok in
+      let a = above_draft s.nodes.items m y ok in
       again (omega (arith, a.low-there)) (verdict-repeated m (stored s) y ok (or_left _ _ (eq-eqb y.low y.high q))) (ap stored e)
-  came n (there e apart two less is) = again less (verdict-repeated m (stored s) y ok (or_right _ _ (there-among s.nodes s.count within y n two less is))) (ap stored e)
-  came n (pushed room count nodes apart absent r) =
-      let more : stored t ≡ take (s.count + 1) t.nodes = ap (λ (k : ℕ). take k t.nodes) count in
-      last r (verdict-fits m (stored s) y ok apart (absent_among s.nodes s.count within y absent)) (omega (arith, length_draft s.nodes s.count within))
-      (more ∙ ap (λ (xs : List Node). take (s.count + 1) xs) nodes ∙ take_more_set s.nodes s.count y (omega arith))
+  came n (there e apart two less is) = again less (verdict-repeated m (stored s) y ok (or_right _ _ (there-among s.nodes.items y n two less is))) (ap stored e)
+  came n (pushed room nodes apart absent r) = last r (verdict-fits m (stored s) y ok apart (absent_among s.nodes.items y absent)) room nodes
 
   kept-did : (n : ℕ) → Did s t y n → Sound m t
   kept-did n = go
@@ -119,29 +107,29 @@ module _ (m : ℕ) (s t : Store) (y : Node) (o : Sound m s) (ok : in_place m (st
       go : Did s t y n → Sound m t
       go (dropped e q r) = same_store e
       go (there e apart two less is) = same_store e
-      go (pushed room count nodes apart absent r) =
-          let g : Agree s.nodes t.nodes s.count = λ i two less. ap (λ (z : List Node). at z i) nodes ∙ at_old s.nodes s.count y i two less in
-          let new : at t.nodes (s.count + 2) ≡ y = ap (λ (z : List Node). at z (s.count + 2)) nodes ∙ at_new s.nodes s.count y (s.count + 2) (omega arith) refl in
-          let od = ordered_grown m s.count s.nodes t.nodes y o.ordered g new (above_draft s.nodes s.count within m y ok) in
-          let rd = reduced_grown s.count s.nodes t.nodes y (o.proper, o.single) g new apart absent in
-          let P : ℕ → Type 0 = λ k. Ordered m t.nodes k × Proper t.nodes k × Single t.nodes k in
-          let p : P t.count = subst P (sym count) (od, rd.0, rd.1) in
+      go (pushed room nodes apart absent r) =
+          let g : Agree s.nodes.items t.nodes.items (length s.nodes.items) = λ i two less. ap (λ (z : List Node). at z i) nodes ∙ at_old s.nodes.items y i two less in
+          let new : at t.nodes.items (length s.nodes.items + 2) ≡ y = ap (λ (z : List Node). at z (length s.nodes.items + 2)) nodes ∙ at_new s.nodes.items y (length s.nodes.items + 2) refl in
+          let od = ordered_grown m (length s.nodes.items) s.nodes.items t.nodes.items y o.ordered g new (above_draft s.nodes.items m y ok) in
+          let rd = reduced_grown (length s.nodes.items) s.nodes.items t.nodes.items y (o.proper, o.single) g new apart absent in
+          let P : ℕ → Type 0 = λ k. Ordered m t.nodes.items k × Proper t.nodes.items k × Single t.nodes.items k in
+          let p : P (length t.nodes.items) = subst P (sym (ap length nodes ∙ length_push s.nodes.items y)) (od, rd.0, rd.1) in
           record { ordered = p.0; proper = p.1; single = p.2 }
 
   -- what a draft keeps of its store stays
-  pub kept : (r : Result ℕ Full) → MatchResult r (λ n. Did s t y n) (λ _. (t ≡ s) × (s.count ≡ 1024) × (y.low ≡ y.high → ⊥) × Absent s.nodes s.count y) → Sound m t
+  pub kept : (r : Result ℕ Full) → MatchResult r (λ n. Did s t y n) (λ _. (t ≡ s) × (length s.nodes.items ≡ 1024) × (y.low ≡ y.high → ⊥) × Absent s.nodes.items (length s.nodes.items) y) → Sound m t
   kept (Ok n) h = kept-did n h
   kept (Err f) h = let P : Store → Type 0 = λ z. Sound m z in subst P (sym h.0) o
 
   -- where there is no room, the node would have been the last
-  pub full : s.count ≡ 1024 → (y.low ≡ y.high → ⊥) → Absent s.nodes s.count y → (verdict m (stored s) y ≡ fits) × (length (stored s) ≡ 1024)
-  full many apart absent = (verdict-fits m (stored s) y ok apart (absent_among s.nodes s.count within y absent), length_draft s.nodes s.count within ∙ many)
+  pub full : length s.nodes.items ≡ 1024 → (y.low ≡ y.high → ⊥) → Absent s.nodes.items (length s.nodes.items) y → (verdict m (stored s) y ≡ fits) × (length (stored s) ≡ 1024)
+  full many apart absent = (verdict-fits m (stored s) y ok apart (absent_among s.nodes.items y absent), many)
 
 -- which of both it was, by the number that was answered
-pub came_again : (m : ℕ) (s t : Store) (y : Node) (n : ℕ) → Came m s t y n → n < s.count + 2 → (verdict m (stored s) y ≡ repeated) × (stored t ≡ stored s)
+pub came_again : (m : ℕ) (s t : Store) (y : Node) (n : ℕ) → Came m s t y n → n < length s.nodes.items + 2 → (verdict m (stored s) y ≡ repeated) × (stored t ≡ stored s)
 came_again m s t y n (again l v e) h = (v, e)
 came_again m s t y n (last r v l e) h = absurd (omega arith)
 
-pub came_last : (m : ℕ) (s t : Store) (y : Node) (n : ℕ) → Came m s t y n → s.count + 2 ≤ n → (verdict m (stored s) y ≡ fits) × (length (stored s) < 1024) × (stored t ≡ stored s ++ (y ∷ []))
+pub came_last : (m : ℕ) (s t : Store) (y : Node) (n : ℕ) → Came m s t y n → length s.nodes.items + 2 ≤ n → (verdict m (stored s) y ≡ fits) × (length (stored s) < 1024) × (stored t ≡ stored s ++ (y ∷ []))
 came_last m s t y n (again l v e) h = absurd (omega arith)
 came_last m s t y n (last r v l e) h = (v, l, e)

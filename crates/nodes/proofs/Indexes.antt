@@ -1,27 +1,29 @@
 -- The index by hash of a store, and the walk along a bucket.
-use Rattle.std.proofs.Common.{◌≡◌, ℕ, ◌+◌, ◌-◌, ◌<◌, ◌≤◌, ◌≢◌, List, Option, None, Some, unwrap_or, length, get_or, take, set, replicate, sym, refl, ap, ◌∙◌, subst, ⊎_elim, arith}
+use Rattle.std.proofs.Common.{◌≡◌, ℕ, ◌+◌, ◌-◌, ◌<◌, ◌≤◌, ◌≢◌, List, [], ◌∷◌, ◌++◌, Option, None, Some, unwrap_or, length, get_or, set, replicate, sym, refl, ap, ◌∙◌, subst, ⊎_elim, arith}
 use Rattle.std.proofs.lemmas.Bool.{cases_lt, cases_eq}
-use Rattle.std.proofs.lemmas.List.{get_or-set_same, get_or-set_other, get_or-replicate, get_or_past, get_or-take, length-replicate}
+use Rattle.std.proofs.lemmas.List.{get_or-set_same, get_or-set_other, get_or-replicate, get_or_past, get_or_append_left, get_or_push, length-replicate}
 use Rattle.nodes.specs.declared.node.Node.{Node}
-use Rattle.nodes.specs.Diagrams.{at, blank}
+use Rattle.nodes.specs.Diagrams.{at, blank, Ordered}
 use Rattle.nodes.specs.Buckets.{hash, head, link, Indexed}
 
 -- the node at the index i
 pub at-index : (xs : List Node) (i : ℕ) → at xs (i + 2) ≡ get_or xs i blank
 at-index xs i = let e : i + 2 - 2 ≡ i = omega arith in rw e refl
 
-pub at-front : (xs : List Node) (c i : ℕ) → i < c → at xs (i + 2) ≡ get_or (take c xs) i blank
-at-front xs c i h = at-index xs i ∙ sym (get_or-take c xs i blank h)
+-- whose children have smaller numbers
+pub smaller-children : (m : ℕ) (xs : List Node) (i : ℕ) → Ordered m xs (length xs) → i < length xs → ((get_or xs i blank).low < i + 2) × ((get_or xs i blank).high < i + 2)
+smaller-children m xs i o h =
+    let p = o (i + 2) (omega arith) (omega arith) in
+    let P : Node → Type 0 = λ y. (y.low < i + 2) × (y.high < i + 2) in
+    subst P (at-index xs i) (p.1, p.2)
 
--- the nodes after a write behind them
-pub at_old : (xs : List Node) (c : ℕ) (node : Node) (n : ℕ) → 2 ≤ n → n < c + 2 → at (set xs c node) n ≡ at xs n
-at_old xs c node n h k = get_or-set_other xs c (n - 2) node blank (omega arith)
+-- the nodes after one put behind them
+pub at_old : (xs : List Node) (node : Node) (n : ℕ) → 2 ≤ n → n < length xs + 2 → at (xs ++ (node ∷ [])) n ≡ at xs n
+at_old xs node n h k = get_or_append_left xs (node ∷ []) blank (n - 2) (omega arith)
 
--- and the new one
-pub at_new : (xs : List Node) (c : ℕ) (node : Node) (n : ℕ) → c < length xs → n ≡ c + 2 → at (set xs c node) n ≡ node
-at_new xs c node n h k =
-    let e : n - 2 ≡ c = omega arith in
-    rw e (get_or-set_same xs c node blank h)
+-- and that one
+pub at_new : (xs : List Node) (node : Node) (n : ℕ) → n ≡ length xs + 2 → at (xs ++ (node ∷ [])) n ≡ node
+at_new xs node n e = get_or_push xs node blank (n - 2) (omega arith)
 
 -- an entry after a write
 data Write (xs : List (Option ℕ)) (b : ℕ) (v : Option ℕ) (q : ℕ) : Type 0 where
@@ -49,9 +51,9 @@ index-none xs j k =
       next_of = λ n l two less e. omega arith;
     }
 
-module _ (xs : List Node) (heads nexts : List (Option ℕ)) (c : ℕ) (node : Node) (x : Indexed xs heads nexts c) (cx : c < length xs) (cn : c < length nexts) (ch : hash node < length heads) where
+module _ (xs : List Node) (heads nexts : List (Option ℕ)) (c : ℕ) (node : Node) (x : Indexed xs heads nexts c) (cx : c ≡ length xs) (cn : c < length nexts) (ch : hash node < length heads) where
   ys : List Node
-  ys = set xs c node
+  ys = xs ++ (node ∷ [])
 
   heads' : List (Option ℕ)
   heads' = set heads (hash node) (Some (c + 2))
@@ -80,10 +82,10 @@ module _ (xs : List Node) (heads nexts : List (Option ℕ)) (c : ℕ) (node : No
       go (miss e v) =
           ⊎_elim
           (λ (l : n < c + 2).
-          let o = at_old xs c node n two l in
+          let o = at_old xs node n two (omega arith) in
           let g : n ≤ unwrap_or (head heads (hash (at ys n))) 0 = rw o (x.head_all n two l) in
           omega (arith, ap (λ z. unwrap_or z 0) v))
-          (λ (l : c + 2 ≤ n). absurd (e (ap hash (at_new xs c node n cx (omega arith)))))
+          (λ (l : c + 2 ≤ n). absurd (e (ap hash (at_new xs node n (omega arith)))))
           (cases_lt n (c + 2))
 
   push_head_of : (b n : ℕ) → head heads' b ≡ Some n → (2 ≤ n) × (n < c + 1 + 2) × (hash (at ys n) ≡ b)
@@ -91,22 +93,22 @@ module _ (xs : List Node) (heads nexts : List (Option ℕ)) (c : ℕ) (node : No
   push_head_of b n is = go (wrote heads (hash node) (Some (c + 2)) b ch)
     where
       go : Write heads (hash node) (Some (c + 2)) b → (2 ≤ n) × (n < c + 1 + 2) × (hash (at ys n) ≡ b)
-      go (hit e v) = let n≡ : n ≡ c + 2 = cc in (omega arith, omega arith, ap hash (at_new xs c node n cx n≡) ∙ sym e)
-      go (miss e v) = let h = x.head_of b n (sym v ∙ is) in (h.0, omega (arith, h.1), ap hash (at_old xs c node n h.0 h.1) ∙ h.2)
+      go (hit e v) = let n≡ : n ≡ c + 2 = cc in (omega arith, omega arith, ap hash (at_new xs node n (omega arith)) ∙ sym e)
+      go (miss e v) = let h = x.head_of b n (sym v ∙ is) in (h.0, omega (arith, h.1), ap hash (at_old xs node n h.0 (omega (arith, h.1))) ∙ h.2)
 
   push_next_all : (n a : ℕ) → 2 ≤ a → a < n → n < c + 1 + 2 → hash (at ys a) ≡ hash (at ys n) → a ≤ unwrap_or (link nexts' n) 0
   unfolding ys
   push_next_all n a two less top e =
-      let ea = at_old xs c node a two (omega arith) in
+      let ea = at_old xs node a two (omega arith) in
       ⊎_elim
       (λ (l : n < c + 2).
-      let en = at_old xs c node n (omega arith) l in
+      let en = at_old xs node n (omega arith) (omega arith) in
       let e' : hash (at xs a) ≡ hash (at xs n) = ap hash (sym ea) ∙ (e ∙ ap hash en) in
       let g : a ≤ unwrap_or (link nexts n) 0 = x.next_all n a two less l e' in
       omega (arith, ap (λ z. unwrap_or z 0) (push_next_old n (omega arith) l)))
       (λ (l : c + 2 ≤ n).
       let n≡ : n ≡ c + 2 = omega arith in
-      let e' : hash (at xs a) ≡ hash node = ap hash (sym ea) ∙ (e ∙ ap hash (at_new xs c node n cx n≡)) in
+      let e' : hash (at xs a) ≡ hash node = ap hash (sym ea) ∙ (e ∙ ap hash (at_new xs node n (omega arith))) in
       let g : a ≤ unwrap_or (head heads (hash (at xs a))) 0 = x.head_all a two (omega arith) in
       omega (arith, g, ap (λ (t : ℕ). unwrap_or (head heads t) 0) e', ap (λ z. unwrap_or z 0) (push_next_new n n≡)))
       (cases_lt n (c + 2))
@@ -117,15 +119,15 @@ module _ (xs : List Node) (heads nexts : List (Option ℕ)) (c : ℕ) (node : No
       ⊎_elim
       (λ (less : n < c + 2).
       let h = x.next_of n l two less (sym (push_next_old n two less) ∙ is) in
-      (h.0, h.1, ap hash (at_old xs c node l h.0 (omega (arith, h.1))) ∙ (h.2 ∙ ap hash (sym (at_old xs c node n two less)))))
+      (h.0, h.1, ap hash (at_old xs node l h.0 (omega (arith, h.1))) ∙ (h.2 ∙ ap hash (sym (at_old xs node n two (omega arith))))))
       (λ (more : c + 2 ≤ n).
       let n≡ : n ≡ c + 2 = omega arith in
       let h = x.head_of (hash node) l (sym (push_next_new n n≡) ∙ is) in
-      (h.0, omega (arith, h.1), ap hash (at_old xs c node l h.0 h.1) ∙ (h.2 ∙ ap hash (sym (at_new xs c node n cx n≡)))))
+      (h.0, omega (arith, h.1), ap hash (at_old xs node l h.0 (omega (arith, h.1))) ∙ (h.2 ∙ ap hash (sym (at_new xs node n (omega arith))))))
       (cases_lt n (c + 2))
 
   -- one node more
-  pub index_push : Indexed (set xs c node) (set heads (hash node) (Some (c + 2))) (set nexts c (head heads (hash node))) (c + 1)
+  pub index_push : Indexed (xs ++ (node ∷ [])) (set heads (hash node) (Some (c + 2))) (set nexts c (head heads (hash node))) (c + 1)
   unfolding ys heads' nexts'
   index_push = record { head_all = push_head_all; head_of = push_head_of; next_all = push_next_all; next_of = push_next_of }
 

@@ -1,6 +1,7 @@
 -- The nodes that others name, and the smallest that none names.
-use Rattle.std.proofs.Common.{◌≡◌, ℕ, zero, suc, ◌+◌, ◌-◌, ◌<◌, ◌≤◌, Bool, true, false, cond, not, ◌||◌, eqb, ◌⊎◌, List, [], ◌∷◌, ◌++◌, length, get_or, take, drop, Some, None, Decides, Option, sym, refl, ap, ◌∙◌, subst, inl, inr, ⊎_elim, arith}
-use Rattle.std.specs.List.{HoldsAt, find, range_with_len}
+use Rattle.std.proofs.Common.{◌≡◌, ℕ, zero, suc, ◌+◌, ◌-◌, ◌<◌, ◌≤◌, Bool, true, false, cond, not, ◌||◌, eqb, ◌⊎◌, List, [], ◌∷◌, ◌++◌, length, get_or, take, drop, Some, None, Decides, Option, option_map, sym, refl, ap, ◌∙◌, subst, inl, inr, ⊎_elim, arith}
+use Rattle.std.specs.List.{HoldsAt, position, position_from}
+use Rattle.std.proofs.lemmas.Iterator.Adapters.{position_from-zero}
 use Rattle.std.proofs.lemmas.List.{at_drop_more, at_drop_all, drop_all, drop_more, get_or-drop, get_or-take, length-drop, length-take-le, take-append-drop, take_more}
 use Rattle.std.proofs.lemmas.Bool.{cases_Bool, cases_lt, cond-true, cond-false, eqb-true, eq-eqb, or_cases, or_left, or_right, true≢false}
 use Rattle.std.proofs.lemmas.Bool.Decides.{Decides-by_or, Decides-or, Decides-eqb}
@@ -9,8 +10,6 @@ use Rattle.nodes.specs.declared.node.Node.{Node}
 use Rattle.nodes.specs.Diagrams.{at, blank, Ordered, Reach, start, to_low, to_high, Reached}
 use Rattle.nodes.specs.Marks.{Marked, Spread}
 use Rattle.nodes.specs.Drafts.{names, unnamed, top}
-use Rattle.nodes.proofs.Grown.{front-agree}
-use Rattle.nodes.proofs.Adding.{length_draft}
 
 -- n is a child of y
 abbrev Parent : ℕ → Node → Type 0
@@ -42,12 +41,11 @@ spread_names old new y s n = elim (cases_Bool (get_or old n false || child n y))
   ]
 ]
 
-pub names_more : (xs : List Node) (c i : ℕ) → i < c → c ≤ length xs → (old new : List Bool) → Spread old new (get_or (take c xs) i blank) → ((n : ℕ) → get_or old n false ≡ names n (take i xs)) → (n : ℕ) → get_or new n false ≡ names n (take (i + 1) xs)
-names_more xs c i less room old new s e n =
+pub names_more : (xs : List Node) (i : ℕ) → i < length xs → (old new : List Bool) → Spread old new (get_or xs i blank) → ((n : ℕ) → get_or old n false ≡ names n (take i xs)) → (n : ℕ) → get_or new n false ≡ names n (take (i + 1) xs)
+names_more xs i h old new s e n =
     let y = get_or xs i blank in
     let p = child n (get_or xs i blank) in
-    let h : i < length xs = omega arith in
-    spread_names old new y (subst (λ (z : Node). Spread old new z) (get_or-take c xs i blank less) s) n ∙ ap (λ (b : Bool). b || p) (e n) ∙ ap (λ (b : Bool). names n (take i xs) || b) (sym (or-false p)) ∙ sym (names-append n (take i xs) (y ∷ [])) ∙ sym (ap (names n) (take_more xs i blank h))
+    spread_names old new y s n ∙ ap (λ (b : Bool). b || p) (e n) ∙ ap (λ (b : Bool). names n (take i xs) || b) (sym (or-false p)) ∙ sym (names-append n (take i xs) (y ∷ [])) ∙ sym (ap (names n) (take_more xs i blank h))
 
 -- one node further in the search for the smallest that none names
 pub unnamed-more : (ys : List Node) (n i : ℕ) → i + 1 < length ys → unnamed n (drop i ys) ≡ cond (names n (drop (i + 1) ys)) (unnamed (n + 1) (drop (i + 1) ys)) (Some n)
@@ -64,27 +62,24 @@ unnamed-none ys n i h = elim (cases_lt i (length ys)) [
 ]
 
 -- in order, only later nodes name a node
-module _ (m : ℕ) (xs : List Node) (c : ℕ) (room : c ≤ length xs) (o : Ordered m xs c) where
-  early : (n : ℕ) → 2 ≤ n → n < c + 2 → names n (take (n - 1) (take c xs)) ≡ false
-  early n two less = elim (cases_Bool (names n (take (n - 1) (take c xs)))) [
+module _ (m : ℕ) (xs : List Node) (o : Ordered m xs (length xs)) where
+  early : (n : ℕ) → 2 ≤ n → n < length xs + 2 → names n (take (n - 1) xs) ≡ false
+  early n two less = elim (cases_Bool (names n (take (n - 1) xs))) [
     | inr e ↦ e
     | inl e ↦
-        let ys = take c xs in
-        let long : length (take c xs) ≡ c = length_draft xs c room in
-        let w = (names_decides n (take (n - 1) (take c xs))).0 e in
+        let w = (names_decides n (take (n - 1) xs)).0 e in
         let k = w.0 in
-        let kn : k < n - 1 = omega (arith, w.1, length-take-le (n - 1) (take c xs) (omega arith)) in
+        let kn : k < n - 1 = omega (arith, w.1, length-take-le (n - 1) xs (omega arith)) in
         let i : k + 2 - 2 ≡ k = omega arith in
-        let e0 : get_or (take (n - 1) (take c xs)) k blank ≡ at xs (k + 2) = get_or-take (n - 1) ys k blank kn ∙ ap (λ (j : ℕ). get_or ys j blank) (sym i) ∙ front-agree xs c room (k + 2) (omega arith) (omega arith) in
+        let e0 : get_or (take (n - 1) xs) k blank ≡ at xs (k + 2) = get_or-take (n - 1) xs k blank kn ∙ ap (λ (j : ℕ). get_or xs j blank) (sym i) in
         let p = o (k + 2) (omega arith) (omega arith) in
         let q : Parent n (at xs (k + 2)) = subst (Parent n) e0 (w.2 blank) in
         absurd (⊎_elim (λ (l : (at xs (k + 2)).low ≡ n). omega arith) (λ (l : (at xs (k + 2)).high ≡ n). omega arith) q)
   ]
 
-  pub later : (n : ℕ) → 2 ≤ n → n < c + 2 → names n (drop (n - 1) (take c xs)) ≡ names n (take c xs)
+  pub later : (n : ℕ) → 2 ≤ n → n < length xs + 2 → names n (drop (n - 1) xs) ≡ names n xs
   later n two less =
-      let ys = take c xs in
-      sym (ap (names n) (sym (take-append-drop (n - 1) ys)) ∙ names-append n (take (n - 1) ys) (drop (n - 1) ys) ∙ ap (λ (b : Bool). b || names n (drop (n - 1) ys)) (early n two less))
+      sym (ap (names n) (sym (take-append-drop (n - 1) xs)) ∙ names-append n (take (n - 1) xs) (drop (n - 1) xs) ∙ ap (λ (b : Bool). b || names n (drop (n - 1) xs)) (early n two less))
 
 never : (n : ℕ) (ys : List Node) → names n ys ≡ false → cond (names n ys) (unnamed (n + 1) ys) (Some n) ≡ None → ⊥
 never n ys is e =
@@ -93,29 +88,47 @@ never n ys is e =
     omega arith
 
 -- where the search stands at n, by whether a node names it
-module _ (m : ℕ) (xs : List Node) (c : ℕ) (room : c ≤ length xs) (o : Ordered m xs c) (n : ℕ) (two : 2 ≤ n) (less : n < c + 1) where
-  turn : (b : Bool) → names n (take c xs) ≡ b → unnamed n (drop (n - 2) (take c xs)) ≡ cond b (unnamed (n + 1) (drop (n + 1 - 2) (take c xs))) (Some n)
+module _ (m : ℕ) (xs : List Node) (o : Ordered m xs (length xs)) (n : ℕ) (two : 2 ≤ n) (less : n < length xs + 1) where
+  turn : (b : Bool) → names n xs ≡ b → unnamed n (drop (n - 2) xs) ≡ cond b (unnamed (n + 1) (drop (n + 1 - 2) xs)) (Some n)
   turn b e =
-      let ys = take c xs in
-      let long : length (take c xs) ≡ c = length_draft xs c room in
       let i : n - 2 + 1 ≡ n + 1 - 2 = omega arith in
       let j : n - 2 + 1 ≡ n - 1 = omega arith in
-      unnamed-more ys n (n - 2) (omega arith)
-      ∙ ap (λ (t : Bool). cond t (unnamed (n + 1) (drop (n - 2 + 1) ys)) (Some n)) (ap (λ (k : ℕ). names n (drop k ys)) j ∙ later m xs c room o n two (omega arith) ∙ e)
-      ∙ ap (λ (k : ℕ). cond b (unnamed (n + 1) (drop k ys)) (Some n)) i
+      unnamed-more xs n (n - 2) (omega arith)
+      ∙ ap (λ (t : Bool). cond t (unnamed (n + 1) (drop (n - 2 + 1) xs)) (Some n)) (ap (λ (k : ℕ). names n (drop k xs)) j ∙ later m xs o n two (omega arith) ∙ e)
+      ∙ ap (λ (k : ℕ). cond b (unnamed (n + 1) (drop k xs)) (Some n)) i
+
+-- places that count from two more
+position_from-added : (i : ℕ) (bs : List Bool) → option_map (λ k. k + 2) (position_from not i bs) ≡ position_from not (i + 2) bs
+position_from-added i [] = refl
+position_from-added i (b ∷ bs) = by b (position_from-added (i + 1) bs)
+  where
+    by : (b : Bool) → option_map (λ k. k + 2) (position_from not (i + 1) bs) ≡ position_from not (i + 1 + 2) bs → option_map (λ k. k + 2) (cond (not b) (Some i) (position_from not (i + 1) bs)) ≡ cond (not b) (Some (i + 2)) (position_from not (i + 2 + 1) bs)
+    by false h = refl
+    by true h = let e : i + 1 + 2 ≡ i + 2 + 1 = omega arith in h ∙ ap (λ k. position_from not k bs) e
 
 -- the search from n on, by marks on the numbers that the nodes name
-module _ (m : ℕ) (xs : List Node) (c : ℕ) (room : c ≤ length xs) (o : Ordered m xs c) (marks : List Bool) (named : (n : ℕ) → get_or marks n false ≡ names n (take c xs)) where
-  pub find-unnamed : (k n : ℕ) → 2 ≤ n → k ≡ c + 1 - n → find (λ z. not (get_or marks z false)) (range_with_len n k) ≡ unnamed n (drop (n - 2) (take c xs))
-  find-unnamed zero n two e = sym (unnamed-none (take c xs) n (n - 2) (omega (arith, length_draft xs c room)))
-  find-unnamed (suc k) n two e = go (get_or marks n false) refl (find-unnamed k (n + 1) (omega arith) (omega arith))
+module _ (m : ℕ) (xs : List Node) (o : Ordered m xs (length xs)) (marks : List Bool) (long : length xs + 1 ≤ length marks) (named : (n : ℕ) → get_or marks n false ≡ names n xs) where
+  position-unnamed : (k n : ℕ) → 2 ≤ n → k ≡ length xs + 1 - n → position_from not n (drop n (take (length xs + 1) marks)) ≡ unnamed n (drop (n - 2) xs)
+  position-unnamed zero n two e =
+      at_drop_all (position_from not n) (take (length xs + 1) marks) n (omega (arith, length-take-le (length xs + 1) marks long))
+      ∙ sym (unnamed-none xs n (n - 2) (omega arith))
+  position-unnamed (suc k) n two e =
+      at_drop_more (position_from not n) (take (length xs + 1) marks) n false (omega (arith, length-take-le (length xs + 1) marks long))
+      ∙ ap (λ (b : Bool). cond (not b) (Some n) rest) (get_or-take (length xs + 1) marks n false (omega arith))
+      ∙ go (get_or marks n false) refl (position-unnamed k (n + 1) (omega arith) (omega arith))
     where
       rest : Option ℕ
-      rest = find (λ z. not (get_or marks z false)) (range_with_len (n + 1) k)
+      rest = position_from not (n + 1) (drop (n + 1) (take (length xs + 1) marks))
 
-      go : (b : Bool) → get_or marks n false ≡ b → rest ≡ unnamed (n + 1) (drop (n + 1 - 2) (take c xs)) → cond (not b) (Some n) rest ≡ unnamed n (drop (n - 2) (take c xs))
-      go true h f = f ∙ sym (turn m xs c room o n two (omega arith) true (sym (named n) ∙ h))
-      go false h f = sym (turn m xs c room o n two (omega arith) false (sym (named n) ∙ h))
+      go : (b : Bool) → get_or marks n false ≡ b → rest ≡ unnamed (n + 1) (drop (n + 1 - 2) xs) → cond (not b) (Some n) rest ≡ unnamed n (drop (n - 2) xs)
+      go true h f = f ∙ sym (turn m xs o n two (omega arith) true (sym (named n) ∙ h))
+      go false h f = sym (turn m xs o n two (omega arith) false (sym (named n) ∙ h))
+
+  -- the first place after the ends without a mark
+  pub first-unnamed : (r : Option ℕ) → r ≡ position not (drop 2 (take (length xs + 1) marks)) → option_map (λ i. i + 2) r ≡ unnamed 2 xs
+  first-unnamed r is =
+      let ms = drop 2 (take (length xs + 1) marks) in
+      ap (option_map (λ i. i + 2)) (is ∙ position_from-zero not ms) ∙ position_from-added 0 ms ∙ position-unnamed (length xs + 1 - 2) 2 (omega arith) refl
 
 -- where there is none, each node but the last has a later one that names it
 named-at : (n : ℕ) (ys : List Node) → unnamed n ys ≡ None → (j : ℕ) → suc j < length ys → names (n + j) (drop (suc j) ys) ≡ true
@@ -134,34 +147,32 @@ named-at n (x ∷ y ∷ ys) e (suc j) h = elim (cases_Bool (names n (y ∷ ys)))
 ]
 
 -- so that each is come to from the last
-module _ (xs : List Node) (c : ℕ) (room : c ≤ length xs) (all : unnamed 2 (take c xs) ≡ None) where
-  namer : (n : ℕ) → 2 ≤ n → n < c + 1 → (p : ℕ) × (n < p) × (p < c + 2) × Parent n (at xs p)
+module _ (xs : List Node) (all : unnamed 2 xs ≡ None) where
+  namer : (n : ℕ) → 2 ≤ n → n < length xs + 1 → (p : ℕ) × (n < p) × (p < length xs + 2) × Parent n (at xs p)
   namer n two less =
-      let ys = take c xs in
-      let long : length (take c xs) ≡ c = length_draft xs c room in
       let j : 2 + (n - 2) ≡ n = omega arith in
-      let e : names n (drop (suc (n - 2)) (take c xs)) ≡ true = ap (λ (k : ℕ). names k (drop (suc (n - 2)) ys)) (sym j) ∙ named-at 2 ys all (n - 2) (omega arith) in
-      let w = (names_decides n (drop (suc (n - 2)) (take c xs))).0 e in
+      let e : names n (drop (suc (n - 2)) xs) ≡ true = ap (λ (k : ℕ). names k (drop (suc (n - 2)) xs)) (sym j) ∙ named-at 2 xs all (n - 2) (omega arith) in
+      let w = (names_decides n (drop (suc (n - 2)) xs)).0 e in
       let k = w.0 in
-      let inside : suc (n - 2) + k < c = omega (arith, w.1, length-drop (suc (n - 2)) (take c xs)) in
+      let inside : suc (n - 2) + k < length xs = omega (arith, w.1, length-drop (suc (n - 2)) xs) in
       let p : ℕ = suc (n - 2) + k + 2 in
       let i : suc (n - 2) + k + 2 - 2 ≡ suc (n - 2) + k = omega arith in
-      let e0 : get_or (drop (suc (n - 2)) (take c xs)) k blank ≡ at xs (suc (n - 2) + k + 2) = get_or-drop (suc (n - 2)) ys k blank ∙ ap (λ (j : ℕ). get_or ys j blank) (sym i) ∙ front-agree xs c room (suc (n - 2) + k + 2) (omega arith) (omega arith) in
+      let e0 : get_or (drop (suc (n - 2)) xs) k blank ≡ at xs (suc (n - 2) + k + 2) = get_or-drop (suc (n - 2)) xs k blank ∙ ap (λ (j : ℕ). get_or xs j blank) (sym i) in
       (suc (n - 2) + k + 2, omega arith, omega arith, subst (Parent n) e0 (w.2 blank))
 
-  come : (f n : ℕ) → c + 1 ≤ n + f → 2 ≤ n → n < c + 2 → Reach xs (c + 1) n
-  come zero n far two less = let e : c + 1 ≡ n = omega arith in subst (Reach xs (c + 1)) e start
-  come (suc f) n far two less = elim (cases_lt n (c + 1)) [
-    | inr h ↦ let e : c + 1 ≡ n = omega arith in subst (Reach xs (c + 1)) e start
+  come : (f n : ℕ) → length xs + 1 ≤ n + f → 2 ≤ n → n < length xs + 2 → Reach xs (length xs + 1) n
+  come zero n far two less = let e : length xs + 1 ≡ n = omega arith in subst (Reach xs (length xs + 1)) e start
+  come (suc f) n far two less = elim (cases_lt n (length xs + 1)) [
+    | inr h ↦ let e : length xs + 1 ≡ n = omega arith in subst (Reach xs (length xs + 1)) e start
     | inl h ↦
         let w = namer n two h in
         let r = come f w.0 (omega (arith, w.1)) (omega (arith, w.1)) w.2 in
         let q : Parent n (at xs w.0) = w.3 in
-        ⊎_elim (λ (l : (at xs w.0).low ≡ n). subst (Reach xs (c + 1)) l (to_low (omega (arith, w.1)) r)) (λ (l : (at xs w.0).high ≡ n). subst (Reach xs (c + 1)) l (to_high (omega (arith, w.1)) r)) q
+        ⊎_elim (λ (l : (at xs w.0).low ≡ n). subst (Reach xs (length xs + 1)) l (to_low (omega (arith, w.1)) r)) (λ (l : (at xs w.0).high ≡ n). subst (Reach xs (length xs + 1)) l (to_high (omega (arith, w.1)) r)) q
   ]
 
-  pub reached-last : Reached xs c (c + 1)
-  reached-last n two less = ∣ come (c + 1) n (omega arith) two less ∣₁
+  pub reached-last : Reached xs (length xs) (length xs + 1)
+  reached-last n two less = ∣ come (length xs + 1) n (omega arith) two less ∣₁
 
 -- the root: the number of the last node, or an end where there is none
 pub top-none : (ys : List Node) (one : Bool) → length ys ≡ 0 → top ys one ≡ cond one 1 0
@@ -172,21 +183,20 @@ pub top-last : (ys : List Node) (one : Bool) → 0 < length ys → top ys one �
 top-last [] one h = absurd (omega arith)
 top-last (y ∷ ys) one h = refl
 
-module _ (xs : List Node) (c : ℕ) (room : c ≤ length xs) (one : Bool) where
-  pub top-there : top (take c xs) one < c + 2
-  top-there = elim (cases_lt 0 c) [
-    | inl h ↦ omega (arith, top-last (take c xs) one (omega (arith, length_draft xs c room)), length_draft xs c room)
+module _ (xs : List Node) (one : Bool) where
+  pub top-there : top xs one < length xs + 2
+  top-there = elim (cases_lt 0 (length xs)) [
+    | inl h ↦ omega (arith, top-last xs one (omega arith))
     | inr h ↦
         let z : cond one 1 0 < 2 = elim one as (λ b. cond b 1 0 < 2) [ true ↦ omega arith | false ↦ omega arith ] in
-        omega (arith, top-none (take c xs) one (omega (arith, length_draft xs c room)))
+        omega (arith, top-none xs one (omega arith))
   ]
 
-  pub reached-top : unnamed 2 (take c xs) ≡ None → Reached xs c (top (take c xs) one)
-  reached-top all = elim (cases_lt 0 c) [
+  pub reached-top : unnamed 2 xs ≡ None → Reached xs (length xs) (top xs one)
+  reached-top all = elim (cases_lt 0 (length xs)) [
     | inl h ↦
-        let long = length_draft xs c room in
-        let e : top (take c xs) one ≡ c + 1 = top-last (take c xs) one (omega arith) ∙ ap (λ (k : ℕ). k + 1) long in
-        let P : ℕ → Type 0 = λ r. Reached xs c r in
-        subst P (sym e) (reached-last xs c room all)
+        let e : top xs one ≡ length xs + 1 = top-last xs one (omega arith) in
+        let P : ℕ → Type 0 = λ r. Reached xs (length xs) r in
+        subst P (sym e) (reached-last xs all)
     | inr h ↦ λ n two less. absurd (omega arith)
   ]

@@ -1,30 +1,34 @@
 -- Three nodes for each node mean the function with two variables exchanged.
-use Rattle.std.proofs.Common.{◌≡◌, ℕ, zero, suc, ◌+◌, ◌-◌, ◌*◌, ◌/◌, ◌<◌, ◌≤◌, Bool, true, false, eqb, ◌⊎◌, List, length, get_or, set, sym, refl, ap, ◌∙◌, subst, inl, inr, ⊎_elim, arith}
+use Rattle.std.proofs.Common.{◌≡◌, ℕ, zero, suc, ◌+◌, ◌-◌, ◌*◌, ◌/◌, ◌<◌, ◌≤◌, Bool, true, false, eqb, ◌⊎◌, List, [], ◌∷◌, ◌++◌, length, sym, refl, ap, ◌∙◌, subst, inl, inr, ⊎_elim, arith}
 use Rattle.std.proofs.lemmas.Bool.{cases_lt, cases_eq, eq-eqb, ne_eqb}
-use Rattle.std.proofs.lemmas.List.{get_or-set_same, get_or-set_other, length-set}
+use Rattle.std.proofs.lemmas.List.{length_push}
 use Rattle.nodes.specs.declared.node.Node.{Node}
 use Rattle.functions.specs.Functions.{Fn, bit, exchanged}
-use Rattle.nodes.specs.Diagrams.{at, down, mean, level, Placed, Ordered, blank, node}
+use Rattle.nodes.specs.Diagrams.{at, down, mean, level, Placed, Ordered, node}
 use Rattle.nodes.specs.Exchanges.{num, Trio, split, lift, plain, Trios}
 use Rattle.nodes.proofs.Canonical.{Look, stands, passes, look, level-end, level-node, step}
+use Rattle.nodes.proofs.Indexes.{at_old, at_new}
 use Rattle.nodes.proofs.Grown.{down_less, placed}
 
-module _ (ys : List Node) (j k l : ℕ) (a b c : Node) (kj : k ≡ j + 1) (lk : l ≡ k + 1) (room : l < length ys) (ys' : List Node) (e : ys' ≡ set (set (set ys j a) k b) l c) where
-  -- the entries after three writes
-  three-at : (q : ℕ) → get_or ys' q blank ≡ get_or (set (set (set ys j a) k b) l c) q blank
-  three-at q = ap (λ (z : List Node). get_or z q blank) e
+module _ (ys : List Node) (a b c : Node) (ys' : List Node) (e : ys' ≡ ((ys ++ (a ∷ [])) ++ (b ∷ [])) ++ (c ∷ [])) where
+  -- the nodes after three put behind them
+  three-at : (n : ℕ) → at ys' n ≡ at (((ys ++ (a ∷ [])) ++ (b ∷ [])) ++ (c ∷ [])) n
+  three-at n = ap (λ (z : List Node). at z n) e
 
-  three_below : (q : ℕ) → q < j → get_or ys' q blank ≡ get_or ys q blank
-  three_below q h = three-at q ∙ (get_or-set_other (set (set ys j a) k b) l q c blank (omega arith) ∙ (get_or-set_other (set ys j a) k q b blank (omega arith) ∙ get_or-set_other ys j q a blank (omega arith)))
+  three-long : (length (ys ++ (a ∷ [])) ≡ length ys + 1) × (length ((ys ++ (a ∷ [])) ++ (b ∷ [])) ≡ length ys + 2)
+  three-long = (length_push ys a, omega (arith, length_push ys a, length_push (ys ++ (a ∷ [])) b))
 
-  three_a : (q : ℕ) → q ≡ j → get_or ys' q blank ≡ a
-  three_a q h = three-at q ∙ (get_or-set_other (set (set ys j a) k b) l q c blank (omega arith) ∙ (get_or-set_other (set ys j a) k q b blank (omega arith) ∙ (ap (λ (t : ℕ). get_or (set ys j a) t blank) h ∙ get_or-set_same ys j a blank (omega arith))))
+  three_below : (n : ℕ) → 2 ≤ n → n < length ys + 2 → at ys' n ≡ at ys n
+  three_below n two h = let l = three-long in three-at n ∙ at_old _ c n two (omega (arith, l.1)) ∙ at_old _ b n two (omega (arith, l.0)) ∙ at_old ys a n two h
 
-  three_b : (q : ℕ) → q ≡ k → get_or ys' q blank ≡ b
-  three_b q h = three-at q ∙ (get_or-set_other (set (set ys j a) k b) l q c blank (omega arith) ∙ (ap (λ (t : ℕ). get_or (set (set ys j a) k b) t blank) h ∙ get_or-set_same (set ys j a) k b blank (omega (arith, length-set ys j a))))
+  three_a : (n : ℕ) → n ≡ length ys + 2 → at ys' n ≡ a
+  three_a n h = let l = three-long in three-at n ∙ at_old _ c n (omega arith) (omega (arith, l.1)) ∙ at_old _ b n (omega arith) (omega (arith, l.0)) ∙ at_new ys a n h
 
-  three_c : (q : ℕ) → q ≡ l → get_or ys' q blank ≡ c
-  three_c q h = three-at q ∙ (ap (λ (t : ℕ). get_or (set (set (set ys j a) k b) l c) t blank) h ∙ get_or-set_same (set (set ys j a) k b) l c blank (omega (arith, length-set ys j a, length-set (set ys j a) k b)))
+  three_b : (n : ℕ) → n ≡ length ys + 3 → at ys' n ≡ b
+  three_b n h = let l = three-long in three-at n ∙ at_old _ c n (omega arith) (omega (arith, l.1)) ∙ at_new _ b n (omega (arith, l.0))
+
+  three_c : (n : ℕ) → n ≡ length ys + 4 → at ys' n ≡ c
+  three_c n h = let l = three-long in three-at n ∙ at_new _ c n (omega (arith, l.1))
 
 trio_is : {xs : List Node} {p n : ℕ} {a b c a' b' c' : Node} → a' ≡ a → b' ≡ b → c' ≡ c → Trio xs p n a b c → Trio xs p n a' b' c'
 trio_is {xs} {p} {n} {a} {b} {c} {a'} {b'} {c'} ea eb ec (split v x y z) = split v (ea ∙ x) (eb ∙ y) (ec ∙ z)
@@ -32,17 +36,16 @@ trio_is {xs} {p} {n} {a} {b} {c} {a'} {b'} {c'} ea eb ec (lift v x y z) = lift v
 trio_is {xs} {p} {n} {a} {b} {c} {a'} {b'} {c'} ea eb ec (plain v w x y z) = plain v w (ea ∙ x) (eb ∙ y) (ec ∙ z)
 
 -- the nodes of one node more
-pub trios_more : (xs : List Node) (p i : ℕ) (ys ys1 ys2 ys3 : List Node) (j k l : ℕ) (a b c : Node) → length ys ≡ 3072 → i < 1024 → j ≡ 3 * i → k ≡ j + 1 → l ≡ k + 1 → ys1 ≡ set ys j a → ys2 ≡ set ys1 k b → ys3 ≡ set ys2 l c → Trios xs p (i + 2) ys → Trio xs p (i + 2) a b c → Trios xs p (i + 1 + 2) ys3
-trios_more xs p i ys ys1 ys2 ys3 j k l a b c len il ji kj lk e1 e2 e3 t new =
-    let room : l < length ys = omega arith in
-    let e : ys3 ≡ set (set (set ys j a) k b) l c = e3 ∙ ap (λ (z : List Node). set z l c) (e2 ∙ ap (λ (z : List Node). set z k b) e1) in
+pub trios_more : (xs : List Node) (p i : ℕ) (ys ys1 ys2 ys3 : List Node) (a b c : Node) → length ys ≡ 3 * i → ys1 ≡ ys ++ (a ∷ []) → ys2 ≡ ys1 ++ (b ∷ []) → ys3 ≡ ys2 ++ (c ∷ []) → Trios xs p (i + 2) ys → Trio xs p (i + 2) a b c → Trios xs p (i + 1 + 2) ys3
+trios_more xs p i ys ys1 ys2 ys3 a b c len e1 e2 e3 t new =
+    let e : ys3 ≡ ((ys ++ (a ∷ [])) ++ (b ∷ [])) ++ (c ∷ []) = e3 ∙ ap (λ (z : List Node). z ++ (c ∷ [])) (e2 ∙ ap (λ (z : List Node). z ++ (b ∷ [])) e1) in
     λ n two less.
     ⊎_elim
     (λ (q : n ≡ i + 2).
     let P : ℕ → Type 0 = λ z. Trio xs p z a b c in
-    trio_is (three_a ys j k l a b c kj lk room ys3 e (num n - 2 - 2) (omega arith)) (three_b ys j k l a b c kj lk room ys3 e (num n - 1 - 2) (omega arith)) (three_c ys j k l a b c kj lk room ys3 e (num n - 2) (omega arith)) (subst P (sym q) new))
+    trio_is (three_a ys a b c ys3 e (num n - 2) (omega arith)) (three_b ys a b c ys3 e (num n - 1) (omega arith)) (three_c ys a b c ys3 e (num n) (omega arith)) (subst P (sym q) new))
     (λ (q : n ≡ i + 2 → ⊥).
-    trio_is (three_below ys j k l a b c kj lk room ys3 e (num n - 2 - 2) (omega arith)) (three_below ys j k l a b c kj lk room ys3 e (num n - 1 - 2) (omega arith)) (three_below ys j k l a b c kj lk room ys3 e (num n - 2) (omega arith)) (t n two (omega arith)))
+    trio_is (three_below ys a b c ys3 e (num n - 2) (omega arith) (omega arith)) (three_below ys a b c ys3 e (num n - 1) (omega arith) (omega arith)) (three_below ys a b c ys3 e (num n) (omega arith) (omega arith)) (t n two (omega arith)))
     (cases_eq n (i + 2))
 
 -- where the two values lead

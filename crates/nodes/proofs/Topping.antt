@@ -1,5 +1,5 @@
 -- New nodes over the leaves mean the function that chooses among them.
-use Rattle.std.proofs.Common.{◌≡◌, ℕ, suc, ◌+◌, ◌-◌, ◌/◌, ◌^◌, ◌<◌, ◌≤◌, List, length, get_or, take, drop, set, sym, refl, ap, ◌∙◌, subst, pow_pos, arith}
+use Rattle.std.proofs.Common.{◌≡◌, ℕ, suc, ◌+◌, ◌-◌, ◌/◌, ◌^◌, ◌<◌, ◌≤◌, List, [], ◌∷◌, ◌++◌, length, get_or, take, drop, sym, refl, ap, ◌∙◌, subst, pow_pos, arith}
 use Rattle.std.proofs.lemmas.List.{get_or-take, get_or-drop, length-drop, length-take-le}
 use native.Mathlib.Nat.{two-pow-succ}
 use Rattle.nodes.specs.declared.node.Node.{Node}
@@ -90,14 +90,14 @@ module _ (leaves : List ℕ) (half : ℕ) (lo hi : List ℕ) (loe : lo ≡ take 
       ap (fork (chosen xs m j leaves k)) b ∙ ap (λ z. fork z (chosen xs m j hi k)) (sym a)
 
   -- one node over two halves
-  pub top_join : (xs : List Node) (c : ℕ) (ys : List Node) (c1 : ℕ) (zs : List Node) (c2 m j v w r1 r2 : ℕ) → Leaves xs c m j leaves → w ≡ v + 1 → w ≤ j → half ≡ 2 ^ (j - w) → length leaves ≡ half + half → Topped xs c ys c1 m j lo w r1 → Topped ys c1 zs c2 m j hi w r2 → c2 < length zs → (ws : List Node) (y : Node) → ws ≡ set zs c2 y → y ≡ record { var = v; low = r1; high = r2 } → (r : ℕ) → r ≡ c2 + 2 → Topped xs c ws (c2 + 1) m j leaves v r
+  pub top_join : (xs : List Node) (c : ℕ) (ys : List Node) (c1 : ℕ) (zs : List Node) (c2 m j v w r1 r2 : ℕ) → Leaves xs c m j leaves → w ≡ v + 1 → w ≤ j → half ≡ 2 ^ (j - w) → length leaves ≡ half + half → Topped xs c ys c1 m j lo w r1 → Topped ys c1 zs c2 m j hi w r2 → c2 ≡ length zs → (ws : List Node) (y : Node) → ws ≡ zs ++ (y ∷ []) → y ≡ record { var = v; low = r1; high = r2 } → (r : ℕ) → r ≡ c2 + 2 → Topped xs c ws (c2 + 1) m j leaves v r
   top_join xs c ys c1 zs c2 m j v w r1 r2 l vw wj hp long t1 t2 room ws y we ye r re =
       let yv : y.var ≡ v = ap (λ (z : Node). z.var) ye in
       let yl : y.low ≡ r1 = ap (λ (z : Node). z.low) ye in
       let yh : y.high ≡ r2 = ap (λ (z : Node). z.high) ye in
       let jm = l.arity in
-      let g : Agree zs ws c2 = λ n two less. ap (λ (z : List Node). at z n) we ∙ at_old zs c2 y n two less in
-      let new : at ws (c2 + 2) ≡ y = ap (λ (z : List Node). at z (c2 + 2)) we ∙ at_new zs c2 y (c2 + 2) room refl in
+      let g : Agree zs ws c2 = λ n two less. ap (λ (z : List Node). at z n) we ∙ at_old zs y n two (omega arith) in
+      let new : at ws (c2 + 2) ≡ y = ap (λ (z : List Node). at z (c2 + 2)) we ∙ at_new zs y (c2 + 2) (omega arith) in
       let la = level-agree ys zs c1 t2.agree m r1 t1.there_is in
       let el = ap (λ (z : ℕ). level m zs z) yl in
       let eh = ap (λ (z : ℕ). level m zs z) yh in

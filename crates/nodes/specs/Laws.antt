@@ -1,5 +1,5 @@
 -- The laws of diagrams and of node charts.
-use Rattle.std.specs.Prelude.{◌≡◌, ℕ, ◌+◌, ◌-◌, ◌<◌, ◌≤◌, false, List}
+use Rattle.std.specs.Prelude.{◌≡◌, ℕ, ◌+◌, ◌-◌, ◌<◌, ◌≤◌, false, List, length}
 use Rattle.functions.specs.Functions.{Arity, tree}
 use Rattle.nodes.specs.declared.node.Node.{Node}
 use Rattle.nodes.specs.Diagrams.{node, at, mean, level, Diagram}
@@ -35,10 +35,10 @@ pub record DiagramLaws : Type 0 where
 -- the laws of node charts
 pub record NodeChartLaws : Type 0 where
   -- a node chart is the reduced ordered diagram of its function
-  pub diagram : (s : NodeChart) → Diagram s.arity s.nodes s.count s.root
+  pub diagram : (s : NodeChart) → Diagram s.arity s.nodes.items (length s.nodes.items) s.root
   -- which has the chart's number of arguments
   pub arity : (s : NodeChart) → Arity s.arity (node_function s)
   -- and fits
   pub fits : (s : NodeChart) → Small (node_function s)
   -- a place that is not there at a depth means the zero column
-  pub lacking : (s : NodeChart) (d n : ℕ) → has s.nodes s.count d n ≡ false → place_column s d n ≡ tree (s.arity - d) (λ i. false)
+  pub lacking : (s : NodeChart) (d n : ℕ) → has s.nodes.items (length s.nodes.items) d n ≡ false → place_column s d n ≡ tree (s.arity - d) (λ i. false)

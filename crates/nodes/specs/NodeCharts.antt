@@ -1,5 +1,5 @@
 -- What the places of a node chart mean, and what a node chart takes on.
-use Rattle.std.specs.Prelude.{◌≡◌, ℕ, ◌+◌, ◌-◌, ◌<◌, Bool, cond, ◌&&◌, ◌||◌, List, Result, MatchResult, nat_le, nat_lt}
+use Rattle.std.specs.Prelude.{◌≡◌, ℕ, ◌+◌, ◌-◌, ◌<◌, Bool, cond, ◌&&◌, ◌||◌, List, length, Result, MatchResult, nat_le, nat_lt}
 use Rattle.functions.specs.Functions.{Fn}
 use Rattle.nodes.specs.declared.node.Node.{Node}
 use Rattle.nodes.specs.declared.node_chart.NodeChart.{NodeChart}
@@ -16,15 +16,15 @@ seen xs c d n = cond (has xs c d n) n 0
 
 -- the column of the place n at the depth d
 abbrev pub place_column : NodeChart → ℕ → ℕ → Fn
-place_column s d n = mean s.nodes (s.arity - d) d (seen s.nodes s.count d n)
+place_column s d n = mean s.nodes.items (s.arity - d) d (seen s.nodes.items (length s.nodes.items) d n)
 
 -- the place that the value v of the argument at the depth d leads to
 abbrev pub onward : NodeChart → ℕ → ℕ → Bool → ℕ
-onward s d n v = cond (nat_lt d s.arity) (down v s.nodes d (seen s.nodes s.count d n)) n
+onward s d n v = cond (nat_lt d s.arity) (down v s.nodes.items d (seen s.nodes.items (length s.nodes.items) d n)) n
 
 -- the function that a node chart means
 abbrev pub node_function : NodeChart → Fn
-node_function s = mean s.nodes s.arity 0 s.root
+node_function s = mean s.nodes.items s.arity 0 s.root
 
 -- the chart of the function f of m arguments
 pub record Drawn (m : ℕ) (f : Fn) (s : NodeChart) : Type 0 where

@@ -1,5 +1,5 @@
 -- What the store of nodes answers.
-use Rattle.std.specs.Prelude.{◌≡◌, ℕ, ◌+◌, ◌<◌, ◌≤◌, List, ◌≢◌, slice_set}
+use Rattle.std.specs.Prelude.{◌≡◌, ℕ, ◌+◌, ◌<◌, ◌≤◌, List, [], ◌∷◌, ◌++◌, length, ◌≢◌}
 use Rattle.nodes.specs.declared.node.Node.{Node}
 use Rattle.nodes.specs.declared.store.Store.{Store}
 use Rattle.nodes.specs.Diagrams.{at}
@@ -11,11 +11,10 @@ Absent xs c y = (n : ℕ) → 2 ≤ n → n < c + 2 → at xs n ≢ y
 -- the store s became t and answered n for the node y: its one child, a node that is there, or a new one
 pub data Did (s t : Store) (y : Node) (n : ℕ) : Type 0 where
   dropped : t ≡ s → y.low ≡ y.high → n ≡ y.low → Did s t y n
-  there : t ≡ s → (y.low ≢ y.high) → 2 ≤ n → n < s.count + 2 → at s.nodes n ≡ y → Did s t y n
-  pushed : s.count < 1024 →
-      t.count ≡ s.count + 1 →
-      t.nodes ≡ slice_set s.nodes s.count y →
+  there : t ≡ s → (y.low ≢ y.high) → 2 ≤ n → n < length s.nodes.items + 2 → at s.nodes.items n ≡ y → Did s t y n
+  pushed : length s.nodes.items < 1024 →
+      t.nodes.items ≡ s.nodes.items ++ (y ∷ []) →
       (y.low ≢ y.high) →
-      Absent s.nodes s.count y →
-      n ≡ s.count + 2 →
+      Absent s.nodes.items (length s.nodes.items) y →
+      n ≡ length s.nodes.items + 2 →
       Did s t y n

@@ -8,11 +8,12 @@ ghost use Rattle.nodes.specs.NodeLaws.{node_laws};
 
 use super::exchange::exchange;
 use super::node::Node;
-use super::node_chart::{NodeChart, ROOM};
+use super::node_chart::NodeChart;
 use super::places::is_one;
 use super::recode::redrawn;
 use super::store::Full;
 use charts::{Chart, ChartRefusal, Recoding};
+use rows::Row;
 
 impl NodeChart {
     /// The constant 0 of no arguments.
@@ -20,8 +21,7 @@ impl NodeChart {
         ensures { node_function result ≡ bit false }
     {
         NodeChart {
-            nodes: [Node::new(0, 0, 0); ROOM],
-            count: 0,
+            nodes: Row::new(Node::new(0, 0, 0)),
             arity: 0,
             root: 0,
         }
@@ -31,7 +31,7 @@ impl NodeChart {
     pub fn size(&self) -> usize
         ensures { result ≡ size (node_function self.now) }
     {
-        self.count
+        self.nodes.as_slice().len()
     }
 }
 
@@ -74,7 +74,7 @@ impl Chart for NodeChart {
         if n < 2 {
             return usize::from(n);
         }
-        let node = self.nodes[usize::from(n) - 2];
+        let node = self.nodes.as_slice()[usize::from(n) - 2];
         if usize::from(node.var) == depth {
             usize::from(node.child(value))
         } else {

@@ -1,4 +1,4 @@
-ghost use Rattle.std.specs.Prelude.{◌≤◌};
+ghost use Rattle.std.specs.Prelude.{◌≤◌, length};
 ghost use Rattle.nodes.specs.Diagrams.{Ordered, Proper, Single};
 
 use super::store::Store;
@@ -10,7 +10,7 @@ pub struct Draft {
     pub(crate) store: Store,
     pub(crate) arity: usize,
     ghost small: { arity ≤ 16 },
-    ghost ordered: { Ordered arity store.nodes store.count },
-    ghost proper: { Proper store.nodes store.count },
-    ghost single: { Single store.nodes store.count },
+    ghost ordered: { Ordered arity store.nodes.items (length store.nodes.items) },
+    ghost proper: { Proper store.nodes.items (length store.nodes.items) },
+    ghost single: { Single store.nodes.items (length store.nodes.items) },
 }

@@ -51,7 +51,7 @@ impl Draft {
         ensures value { result ≡ length (drafted self.now) }
         ensures bound { result ≤ 1024 }
     {
-        self.store.count
+        self.store.nodes.as_slice().len()
     }
 
     /// The variable of `n`, and `arity` for an end.
@@ -62,7 +62,7 @@ impl Draft {
         if n < 2 {
             self.arity
         } else {
-            usize::from(self.store.nodes[usize::from(n) - 2].var)
+            usize::from(self.store.nodes.as_slice()[usize::from(n) - 2].var)
         }
     }
 
@@ -90,7 +90,7 @@ impl Draft {
         if !self.admits(node) {
             return Err(NodeFlaw::Misplaced);
         }
-        let fresh = self.store.count + 2;
+        let fresh = self.count() + 2;
         let number = self.store.make(node)?;
         if usize::from(number) < fresh {
             return Err(NodeFlaw::Repeated);
@@ -103,7 +103,7 @@ impl Draft {
         ensures { (n : ℕ) → slice_index_or result n false ≡ names n (drafted self.now) }
     {
         let mut marks = [false; SPAN];
-        for node in &self.store.nodes[..self.store.count] {
+        for node in self.store.nodes.as_slice() {
             spread(&mut marks, *node);
         }
         marks
@@ -114,14 +114,16 @@ impl Draft {
         ensures { result ≡ unnamed 2 (drafted self.now) }
     {
         let marks = self.named();
-        (2..self.store.count + 1).find(|n| !marks[*n])
+        let marks = &marks[..self.count() + 1];
+        let first = marks.iter().skip(2).position(|marked| !*marked);
+        first.map(|i| i + 2)
     }
 
     /// The number of the last node, or of the end `one` where there is no node.
     fn top(&self, one: bool) -> u16
         ensures { result ≡ top (drafted self.now) one }
     {
-        match self.store.count {
+        match self.count() {
             0 => u16::from(one),
             count => count as u16 + 1,
         }

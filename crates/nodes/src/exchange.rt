@@ -1,4 +1,4 @@
-ghost use Rattle.std.specs.Prelude.{◌≡◌, ◌+◌, ◌*◌, ◌<◌};
+ghost use Rattle.std.specs.Prelude.{◌≡◌, ◌+◌, ◌*◌, ◌<◌, length};
 ghost use Rattle.functions.specs.Functions.{exchanged};
 ghost use Rattle.nodes.specs.Diagrams.{at, down};
 ghost use Rattle.nodes.specs.Exchanges.{num, Trio, Trios};
@@ -27,18 +27,18 @@ fn tripled(n: u16) -> u16
 
 /// The node at `i`, whose children have smaller numbers.
 fn read(chart: &NodeChart, i: usize) -> Node
-    requires { i < chart.now.count }
-    ensures is { result ≡ at chart.now.nodes (i + 2) }
+    requires { i < length chart.now.nodes.items }
+    ensures is { result ≡ at chart.now.nodes.items (i + 2) }
     ensures low { result.low < i + 2 }
     ensures high { result.high < i + 2 }
 {
-    chart.nodes[i]
+    chart.nodes.as_slice()[i]
 }
 
 /// Where the value of the variable `var` leads from `n`, tripled.
 fn led(chart: &NodeChart, value: bool, var: u8, n: u16) -> u16
-    requires { n < chart.now.count + 2 }
-    ensures { result ≡ num (down value chart.now.nodes var n) }
+    requires { n < length chart.now.nodes.items + 2 }
+    ensures { result ≡ num (down value chart.now.nodes.items var n) }
 {
     if n > 1 {
         let node = read(chart, usize::from(n) - 2);
@@ -50,12 +50,14 @@ fn led(chart: &NodeChart, value: bool, var: u8, n: u16) -> u16
 }
 
 /// The nodes for the node at `i` once `p` and `p` + 1 are exchanged.
-fn parted(chart: &NodeChart, p: u8, i: usize) -> Three
-    requires there { i < chart.now.count }
+fn parted(chart: &NodeChart, p: u8, i: usize, node: Node) -> Three
+    requires there { i < length chart.now.nodes.items }
     requires small { p < 16 }
-    ensures { Trio chart.now.nodes p (i + 2) result.a result.b result.c }
+    requires is { node ≡ at chart.now.nodes.items (i + 2) }
+    requires low { node.low < i + 2 }
+    requires high { node.high < i + 2 }
+    ensures { Trio chart.now.nodes.items p (i + 2) result.a result.b result.c }
 {
-    let node = read(chart, i);
     if node.var == p {
         let low = led(chart, false, p + 1, node.low);
         let high = led(chart, false, p + 1, node.high);
@@ -77,12 +79,12 @@ fn parted(chart: &NodeChart, p: u8, i: usize) -> Three
 fn spread_out(chart: &NodeChart, p: u8) -> Raw
     requires { p < 16 }
     ensures arity { result.arity ≡ chart.now.arity }
-    ensures count { result.count ≡ 3 * chart.now.count }
-    ensures trios { Trios chart.now.nodes p (chart.now.count + 2) result.nodes }
+    ensures count { length result.nodes.items ≡ 3 * length chart.now.nodes.items }
+    ensures trios { Trios chart.now.nodes.items p (length chart.now.nodes.items + 2) result.nodes.items }
 {
     let mut raw = Raw::new(chart.arity);
-    for i in 0..chart.count {
-        let Three { a, b, c } = parted(chart, p, i);
+    for (i, node) in chart.nodes.as_slice().iter().enumerate() {
+        let Three { a, b, c } = parted(chart, p, i, *node);
         raw.push(a);
         raw.push(b);
         raw.push(c);

@@ -1,4 +1,4 @@
-ghost use Rattle.std.specs.Prelude.{◌≡◌, ◌==◌};
+ghost use Rattle.std.specs.Prelude.{◌≡◌, ◌==◌, length};
 ghost use Rattle.nodes.specs.NodeCharts.{seen};
 
 use super::node_chart::NodeChart;
@@ -13,9 +13,10 @@ pub(crate) fn is_one(place: usize) -> bool
 impl NodeChart {
     /// The number that `n` stands for at `depth`: the end 0 if it is not there.
     pub(crate) fn number(&self, depth: usize, n: usize) -> u16
-        ensures { result ≡ seen self.now.nodes self.now.count depth n }
+        ensures { result ≡ seen self.now.nodes.items (length self.now.nodes.items) depth n }
     {
-        if n < 2 || (n < self.count + 2 && depth <= usize::from(self.nodes[n - 2].var)) {
+        let nodes = self.nodes.as_slice();
+        if n < 2 || (n < nodes.len() + 2 && depth <= usize::from(nodes[n - 2].var)) {
             n as u16
         } else {
             0
@@ -24,7 +25,7 @@ impl NodeChart {
 
     /// Whether two places stand for the same number at `depth`.
     pub(crate) fn alike(&self, depth: usize, a: usize, b: usize) -> bool
-        ensures { result ≡ (seen self.now.nodes self.now.count depth a == seen self.now.nodes self.now.count depth b) }
+        ensures { result ≡ (seen self.now.nodes.items (length self.now.nodes.items) depth a == seen self.now.nodes.items (length self.now.nodes.items) depth b) }
     {
         self.number(depth, a) == self.number(depth, b)
     }

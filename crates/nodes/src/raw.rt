@@ -1,27 +1,24 @@
-ghost use Rattle.std.specs.Prelude.{◌≡◌, ◌≤◌, length};
+ghost use Rattle.std.specs.Prelude.{◌≡◌, ◌≤◌};
 
 use super::node::Node;
 use super::node_chart::NodeChart;
 use super::reduce::Unreduced;
 use super::store::Full;
+use rows::Row;
 
 /// The most nodes of an unreduced diagram: three for each of a chart's.
-pub(crate) const SPREAD: usize = 3072;
+pub(crate) const MOST_NODES: usize = 3072;
 
 /// Nodes of a diagram of `arity` variables, put one behind another and not yet reduced.
 #[derive(Drop)]
 pub(crate) struct Raw {
-    // Kept: an array with a count, as no heap is used here.
-    pub(crate) nodes: [Node; SPREAD],
-    pub(crate) count: usize,
+    pub(crate) nodes: Row<Node, MOST_NODES>,
     pub(crate) arity: usize,
-    ghost long: { length nodes ≡ 3072 },
-    ghost room: { count ≤ 3072 },
     ghost small: { arity ≤ 16 },
 }
 
 impl Raw {
-    ghost use Rattle.std.specs.Prelude.{◌+◌, ◌-◌, ◌^◌, ◌<◌, slice_set};
+    ghost use Rattle.std.specs.Prelude.{◌+◌, ◌-◌, ◌^◌, ◌<◌, [], ◌∷◌, ◌++◌, length};
     ghost use Rattle.nodes.specs.Diagrams.{mean, Ordered};
     ghost use Rattle.nodes.specs.NodeCharts.{Draws};
     ghost use Rattle.nodes.specs.Recodes.{Leaves, Topped};
@@ -29,37 +26,33 @@ impl Raw {
     /// No node of `arity` variables.
     pub(crate) fn new(arity: usize) -> Raw
         requires { arity ≤ 16 }
-        ensures count { result.count ≡ 0 }
+        ensures nodes { result.nodes.items ≡ [] }
         ensures arity { result.arity ≡ arity }
     {
         Raw {
-            nodes: [Node::new(0, 0, 0); SPREAD],
-            count: 0,
+            nodes: Row::new(Node::new(0, 0, 0)),
             arity,
         }
     }
 
     /// Puts a node behind the others, and returns its number.
     pub(crate) fn push(&mut self, node: Node) -> u16
-        requires { self.old.count < 3072 }
-        ensures number { result ≡ self.old.count + 2 }
-        ensures count { self.new.count ≡ self.old.count + 1 }
-        ensures nodes { self.new.nodes ≡ slice_set self.old.nodes self.old.count node }
+        requires { length self.old.nodes.items < 3072 }
+        ensures number { result ≡ length self.old.nodes.items + 2 }
+        ensures nodes { self.new.nodes.items ≡ self.old.nodes.items ++ (node ∷ []) }
         ensures arity { self.new.arity ≡ self.old.arity }
     {
-        let i = self.count;
-        self.nodes[i] = node;
-        self.count = i + 1;
-        (i + 2) as u16
+        self.nodes.push(node).unwrap();
+        (self.nodes.as_slice().len() + 1) as u16
     }
 
     /// Puts the nodes of the variables from `var` to `j` over the leaves, and returns the top one's number.
     pub(crate) fn crown(&mut self, leaves: &[u16], var: u8, j: u8) -> u16
-        requires leaves { Leaves self.old.nodes self.old.count self.old.arity j leaves.now }
+        requires leaves { Leaves self.old.nodes.items (length self.old.nodes.items) self.old.arity j leaves.now }
         requires within { var ≤ j }
         requires width { length leaves.now ≡ 2 ^ (j - var) }
-        requires room { self.old.count + length leaves.now ≤ 3073 }
-        ensures top { Topped self.old.nodes self.old.count self.new.nodes self.new.count self.old.arity j leaves.now var result }
+        requires room { length self.old.nodes.items + length leaves.now ≤ 3073 }
+        ensures top { Topped self.old.nodes.items (length self.old.nodes.items) self.new.nodes.items (length self.new.nodes.items) self.old.arity j leaves.now var result }
         ensures arity { self.new.arity ≡ self.old.arity }
     {
         if var == j {
@@ -73,12 +66,12 @@ impl Raw {
 
     /// The chart of what the root means in these nodes, if the function's size is at most 1,024.
     pub(crate) fn reduced(&self, root: u16) -> Result<NodeChart, Full>
-        requires rooted { root < self.now.count + 2 }
-        requires ordered { Ordered self.now.arity self.now.nodes self.now.count }
-        ensures { Draws self.now.arity (mean self.now.nodes self.now.arity 0 root) result }
+        requires rooted { root < length self.now.nodes.items + 2 }
+        requires ordered { Ordered self.now.arity self.now.nodes.items (length self.now.nodes.items) }
+        ensures { Draws self.now.arity (mean self.now.nodes.items self.now.arity 0 root) result }
     {
         let diagram = Unreduced {
-            nodes: &self.nodes[..self.count],
+            nodes: self.nodes.as_slice(),
             arity: self.arity,
             root,
         };

@@ -1,4 +1,4 @@
-ghost use Rattle.std.specs.Prelude.{◌≡◌, ℕ, ◌+◌, ◌-◌, ◌^◌, ◌<◌, ◌≤◌, map, slice_index};
+ghost use Rattle.std.specs.Prelude.{◌≡◌, ℕ, ◌+◌, ◌-◌, ◌^◌, ◌<◌, ◌≤◌, length, map, slice_index};
 ghost use Rattle.functions.specs.Functions.{recoded};
 ghost use Rattle.charts.specs.Changes.{IsInRange};
 ghost use Rattle.nodes.specs.Diagrams.{node, blank};
@@ -32,13 +32,13 @@ fn shifted(chart: &NodeChart, b: u8, j: u8) -> Raw
     requires front { b ≤ chart.now.arity }
     requires small { chart.now.arity - b + j ≤ 16 }
     ensures arity { result.arity ≡ chart.now.arity - b + j }
-    ensures all { b < chart.now.arity → result.count ≡ chart.now.count }
-    ensures none { b ≡ chart.now.arity → result.count ≡ 0 }
-    ensures shifts { b < chart.now.arity → Shifts chart.now.nodes b j (chart.now.count + 2) result.nodes }
+    ensures all { b < chart.now.arity → length result.nodes.items ≡ length chart.now.nodes.items }
+    ensures none { b ≡ chart.now.arity → length result.nodes.items ≡ 0 }
+    ensures shifts { b < chart.now.arity → Shifts chart.now.nodes.items b j (length chart.now.nodes.items + 2) result.nodes.items }
 {
     let mut raw = Raw::new(chart.arity - usize::from(b) + usize::from(j));
     if usize::from(b) < chart.arity {
-        for old in &chart.nodes[..chart.count] {
+        for old in chart.nodes.as_slice() {
             raw.push(moved(*old, b, j));
         }
     }
@@ -48,7 +48,7 @@ fn shifted(chart: &NodeChart, b: u8, j: u8) -> Raw
 /// The number of the place of each code's class, in front of zeros.
 fn leaves_of(chart: &NodeChart, recoding: &Recoding<usize>) -> [u16; 16]
     requires { IsInRange chart.now.arity recoding.now }
-    ensures { (q : ℕ) → q < 2 ^ recoding.now.codes → slice_index result q ≡ seen chart.now.nodes chart.now.count recoding.now.bound (slice_index recoding.now.places.now (slice_index recoding.now.class_of.now q)) }
+    ensures { (q : ℕ) → q < 2 ^ recoding.now.codes → slice_index result q ≡ seen chart.now.nodes.items (length chart.now.nodes.items) recoding.now.bound (slice_index recoding.now.places.now (slice_index recoding.now.class_of.now q)) }
 {
     // Kept: written by index. As a `zip` of `iter_mut` the proof did not close: nothing is known of what it wrote.
     let mut leaves = [0; 16];

@@ -4,10 +4,11 @@ ghost use Rattle.nodes.specs.Marks.{Spread, renamed};
 
 use super::node::Node;
 use super::node_chart::NodeChart;
+use super::raw::MOST_NODES;
 use super::store::{Full, Store};
 
-/// The most numbers of an unreduced diagram: two ends, and three nodes for each of a chart's.
-pub(crate) const SPAN: usize = 3074;
+/// The most numbers of an unreduced diagram: those of the two ends and of the nodes.
+pub(crate) const SPAN: usize = MOST_NODES + 2;
 
 /// Marks the children of a node.
 pub(crate) fn spread(marks: &mut [bool; SPAN], node: Node)
@@ -61,6 +62,7 @@ impl Unreduced<'_> {
     {
         let mut marks = [false; SPAN];
         marks[usize::from(self.root)] = true;
+        // Kept: a mark is read by its number, as the loop writes the marks that it reads.
         for (i, node) in self.nodes.iter().enumerate().rev() {
             if is_marked(&marks, i) {
                 spread(&mut marks, *node);
@@ -78,6 +80,7 @@ impl Unreduced<'_> {
         let mut store = Store::new();
         let mut new = [0; SPAN];
         new[1] = 1;
+        // Kept: a mark is read by its number. As a `zip` the proof did not close: no invariant there can name the marks.
         for (i, old) in self.nodes.iter().enumerate() {
             if is_marked(&marks, i) {
                 new[i + 2] = store.make(renamed(*old, &new))?;

@@ -3,18 +3,17 @@ ghost use Rattle.nodes.specs.Buckets.{hash, link, Indexed};
 
 use super::node::Node;
 use super::node_chart::{NodeChart, ROOM};
+use rows::Row;
 
 /// The nodes made so far, with an index by hash: each bucket's nodes are linked from its last one back.
 #[derive(Drop)]
 pub(crate) struct Store {
-    // Kept: an array with a count, and numbers in place of boxes, as nodes are shared and no heap is used here.
-    pub(crate) nodes: [Node; ROOM],
-    pub(crate) count: usize,
+    // Kept: numbers in place of boxes, as nodes are shared.
+    pub(crate) nodes: Row<Node, ROOM>,
     pub(crate) heads: [Option<u16>; ROOM],
     pub(crate) nexts: [Option<u16>; ROOM],
-    ghost long: { length nodes ≡ 1024 },
-    ghost room: { count ≤ 1024 },
-    ghost indexed: { Indexed nodes heads nexts count },
+    ghost room: { length nodes.items ≤ 1024 },
+    ghost indexed: { Indexed nodes.items heads nexts (length nodes.items) },
 }
 
 /// There is no room for one node more.
@@ -29,17 +28,16 @@ fn bucket(n: Node) -> usize
 }
 
 impl Store {
-    ghost use Rattle.std.specs.Prelude.{◌≢◌, MatchOption, MatchResult, slice_set};
+    ghost use Rattle.std.specs.Prelude.{◌≢◌, [], ◌∷◌, ◌++◌, MatchOption, MatchResult};
     ghost use Rattle.nodes.specs.Diagrams.{at, Diagram};
     ghost use Rattle.nodes.specs.Stores.{Absent, Did};
 
     /// The store with no node.
     pub(crate) fn new() -> Store
-        ensures { result.count ≡ 0 }
+        ensures { result.nodes.items ≡ [] }
     {
         Store {
-            nodes: [Node::new(0, 0, 0); ROOM],
-            count: 0,
+            nodes: Row::new(Node::new(0, 0, 0)),
             heads: [None; ROOM],
             nexts: [None; ROOM],
         }
@@ -56,12 +54,12 @@ impl Store {
 
     /// The number of the node, if it is there.
     fn find(&self, node: Node) -> Option<u16>
-        ensures { MatchOption result (Absent self.now.nodes self.now.count node) (λ n. (2 ≤ n) × (n < self.now.count + 2) × (at self.now.nodes n ≡ node)) }
+        ensures { MatchOption result (Absent self.now.nodes.items (length self.now.nodes.items) node) (λ n. (2 ≤ n) × (n < length self.now.nodes.items + 2) × (at self.now.nodes.items n ≡ node)) }
     {
         // Kept: as `successors(..).find(..)` the proof did not close, since nothing there says that the links end.
         let mut cur = self.heads[bucket(node)];
         while let Some(n) = cur {
-            if self.nodes[usize::from(n) - 2] == node {
+            if self.nodes.as_slice()[usize::from(n) - 2] == node {
                 return Some(n);
             }
             cur = self.after(n);
@@ -71,24 +69,22 @@ impl Store {
 
     /// One node more, which is not there yet.
     fn push(&mut self, node: Node) -> u16
-        requires { self.old.count < 1024 }
-        ensures number { result ≡ self.old.count + 2 }
-        ensures count { self.new.count ≡ self.old.count + 1 }
-        ensures nodes { self.new.nodes ≡ slice_set self.old.nodes self.old.count node }
+        requires { length self.old.nodes.items < 1024 }
+        ensures number { result ≡ length self.old.nodes.items + 2 }
+        ensures nodes { self.new.nodes.items ≡ self.old.nodes.items ++ (node ∷ []) }
     {
-        let i = self.count;
+        let i = self.nodes.as_slice().len();
         let b = bucket(node);
         let number = (i + 2) as u16;
-        self.nodes[i] = node;
+        self.nodes.push(node).unwrap();
         self.nexts[i] = self.heads[b];
         self.heads[b] = Some(number);
-        self.count = i + 1;
         number
     }
 
     /// The number of the node: its child if both are one, the node's if it is there, or else a new one's.
     pub(crate) fn make(&mut self, node: Node) -> Result<u16, Full>
-        ensures { MatchResult result (λ n. Did self.old self.new node n) (λ _. (self.new ≡ self.old) × (self.old.count ≡ 1024) × (node.low ≢ node.high) × Absent self.old.nodes self.old.count node) }
+        ensures { MatchResult result (λ n. Did self.old self.new node n) (λ _. (self.new ≡ self.old) × (length self.old.nodes.items ≡ 1024) × (node.low ≢ node.high) × Absent self.old.nodes.items (length self.old.nodes.items) node) }
     {
         if node.low == node.high {
             return Ok(node.low);
@@ -96,7 +92,7 @@ impl Store {
         if let Some(there) = self.find(node) {
             return Ok(there);
         }
-        if self.count == ROOM {
+        if self.nodes.as_slice().len() == ROOM {
             return Err(Full);
         }
         Ok(self.push(node))
@@ -105,15 +101,13 @@ impl Store {
     /// The chart of these nodes with the root `root`.
     pub(crate) fn chart(&self, arity: usize, root: u16) -> NodeChart
         requires small { arity ≤ 16 }
-        requires diagram { Diagram arity self.now.nodes self.now.count root }
-        ensures nodes { result.nodes ≡ self.now.nodes }
-        ensures count { result.count ≡ self.now.count }
+        requires diagram { Diagram arity self.now.nodes.items (length self.now.nodes.items) root }
+        ensures nodes { result.nodes.items ≡ self.now.nodes.items }
         ensures arity { result.arity ≡ arity }
         ensures root { result.root ≡ root }
     {
         NodeChart {
             nodes: self.nodes,
-            count: self.count,
             arity,
             root,
         }

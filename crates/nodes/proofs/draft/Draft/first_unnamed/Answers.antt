@@ -1,8 +1,8 @@
-use Rattle.std.proofs.Common.{◌+◌, ◌-◌, false, get_or, not, sym, ◌∙◌, refl, arith, rules}
-use Rattle.std.proofs.lemmas.Iterator.{YieldsList-from_range}
-use Rattle.std.proofs.lemmas.Iterator.Adapters.{option_map_id}
-use Rattle.std.proofs.lemmas.Iterator.Search.{find_from_yields_List}
-use Rattle.nodes.proofs.Naming.{find-unnamed}
+use Rattle.std.proofs.Common.{length, ◌≡◌, ◌+◌, not, option_map, take, drop, ◌∙◌, rules}
+use Rattle.std.proofs.lemmas.Iterator.{YieldsList-from_slice}
+use Rattle.std.proofs.lemmas.Iterator.Adapters.{YieldsList-from_skip}
+use Rattle.std.proofs.lemmas.Iterator.Search.{position_from_yields_List}
+use Rattle.nodes.proofs.Naming.{first-unnamed}
 use Rattle.nodes.proofs.draft.Draft.first_unnamed.Goals as goal
 
 pub returns : goal.returns
@@ -10,6 +10,6 @@ returns c =
     let d = c.args.self.now in
     let s = d.store in
     let marks = c.named-marks.result in
-    sym (option_map_id c.find.result)
-    ∙ find_from_yields_List (λ z. not (get_or marks z false)) _ _ c.find.result c.find.ensures.ran (YieldsList-from_range 2 (s.count + 1) (s.count + 1 - 2) refl refl) (λ x b q k. search rules)
-    ∙ find-unnamed d.arity s.nodes s.count (omega arith) d.ordered marks c.named-marks.ensures (s.count + 1 - 2) 2 (omega arith) refl
+    let added : c.map.result ≡ option_map (λ i. i + 2) c.position-first.result = search rules in
+    added ∙ first-unnamed d.arity s.nodes.items d.ordered marks (search rules) c.named-marks.ensures c.position-first.result
+    (position_from_yields_List {s = c.skip.result} {all = drop 2 (take (length s.nodes.items + 1) marks)} not _ _ c.position-first.result c.position-first.ensures.ran (YieldsList-from_skip {s = c.skip.result} 2 (YieldsList-from_slice (take (length s.nodes.items + 1) marks) (cc (c.skip.ensures.source, c.iter.ensures.rest))) c.skip.ensures.count) (λ x b q k. search rules))

@@ -3,4 +3,4 @@ use Rattle.nodes.specs.Drafts.{names}
 use Rattle.nodes.proofs.draft.Draft.named.Given as goal
 
 abbrev pub invariant-loop-node : goal.invariant-loop-node
-invariant-loop-node l = (n : ℕ) → get_or l.marks n false ≡ names n (take l.node-index l.self.store.nodes)
+invariant-loop-node l = (n : ℕ) → get_or l.marks n false ≡ names n (take l.node-index l.self.store.nodes.items)

@@ -6,6 +6,6 @@ use Rattle.nodes.proofs.reduce.Unreduced.reduce.Given as goal
 
 abbrev pub invariant-loop-i : goal.invariant-loop-i
 invariant-loop-i l =
-    State l.self.arity (mean l.self.nodes.now l.self.arity 0 l.self.root) l.store.nodes l.store.count
-    × Turn l.self.arity l.self.nodes.now l.marks l.i l.store.nodes l.store.count l.new
+    State l.self.arity (mean l.self.nodes.now l.self.arity 0 l.self.root) l.store.nodes.items (length l.store.nodes.items)
+    × Turn l.self.arity l.self.nodes.now l.marks l.i l.store.nodes.items (length l.store.nodes.items) l.new
     × (length l.new ≡ 3074)
