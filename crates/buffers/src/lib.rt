@@ -9,7 +9,7 @@ ghost use Rattle.buffers.specs.Written.{Written};
 #[derive(Clone, Copy, PartialEq, Eq, Debug)]
 pub enum WriteRefusal {
     /// The buffer is too short.
-    TooShort,
+    TooShort = 22,
 }
 
 impl WriteRefusal {
@@ -17,9 +17,7 @@ impl WriteRefusal {
     pub fn number(&self) -> u8
         ensures { result ≡ refusal_number self.now }
     {
-        match self {
-            WriteRefusal::TooShort => 22,
-        }
+        *self as u8
     }
 }
 

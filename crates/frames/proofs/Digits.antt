@@ -1,6 +1,5 @@
 -- The bytes that digits write.
-use Rattle.std.proofs.Common.{◌≡◌, ℕ, ◌+◌, ◌*◌, ◌%◌, ◌<◌, ◌≤◌, ◌&&◌, leb, List, [], ◌∷◌, ◌++◌, length, get_or, take, set, Some, None, Option, sym, refl, ap, append_assoc, arith}
-use Rattle.std.proofs.lemmas.List.{take_more_set, append-nil, length-take-le}
+use Rattle.std.proofs.Common.{◌≡◌, ℕ, ◌+◌, ◌*◌, ◌≤◌, ◌&&◌, leb, List, [], ◌∷◌, ◌++◌, length, get_or, Some, None, Option, sym, refl, ap, append_assoc, arith}
 use Rattle.std.proofs.lemmas.Bool.{cond_both, cond-true, and_parts, and_from, leb-true, le-leb}
 use Rattle.frames.specs.Text.{bytes_of, digit_value, paired, bounded}
 
@@ -25,12 +24,11 @@ pair_write xs (h ∷ l ∷ []) rest e n = ap bytes_of e
 pair_write xs (h ∷ l ∷ m ∷ more) rest e n = absurd (omega arith)
 
 -- two digits more of a loop that reads them
-pub byte_more : (xs pair rest bs : List ℕ) (all : Option (List ℕ)) (i h l : ℕ) → xs ≡ pair ++ rest → length pair ≡ 2 → i < length bs
+pub byte_more : (xs pair rest fs : List ℕ) (all : Option (List ℕ)) (h l : ℕ) → xs ≡ pair ++ rest → length pair ≡ 2
     → digit_value (get_or pair 0 0) ≡ Some h → digit_value (get_or pair 1 0) ≡ Some l
-    → onto (take i bs) (bytes_of xs) ≡ all → onto (take (i + 1) (set bs i (16 * h + l))) (bytes_of rest) ≡ all
-byte_more xs pair rest bs all i h l e n in-bs high low before =
-    let a : onto (take (i + 1) (set bs i (16 * h + l))) (bytes_of rest) ≡ onto (take i bs ++ ((16 * h + l) ∷ [])) (bytes_of rest) = ap (λ (t : List ℕ). onto t (bytes_of rest)) (take_more_set bs i (16 * h + l) in-bs) in
-    let b = onto_paired (take i bs) h l (bytes_of rest) in
+    → onto fs (bytes_of xs) ≡ all → onto (fs ++ ((16 * h + l) ∷ [])) (bytes_of rest) ≡ all
+byte_more xs pair rest fs all h l e n high low before =
+    let b = onto_paired fs h l (bytes_of rest) in
     let t = pair_write xs pair rest e n in
     cc
 
@@ -72,13 +70,3 @@ bounded-none (Some bs) f =
 
 pub bounded-some : (bs : List ℕ) → 2 ≤ length bs → length bs ≤ 24 → bounded (Some bs) ≡ Some bs
 bounded-some bs a b = cond-true _ _ _ (and_from (leb 2 (length bs)) (leb (length bs) 24) (le-leb 2 (length bs) a) (le-leb (length bs) 24 b))
-
--- all the digits of such a loop, where fewer than two are left
-pub bytes_all : (ds rest bs : List ℕ) (n : ℕ) → length rest < 2 → 2 * n + length rest ≡ length ds → length ds % 2 ≡ 0 → 2 ≤ n → n ≤ 24 → n ≤ length bs
-    → onto (take n bs) (bytes_of rest) ≡ bytes_of ds → Some (take n bs) ≡ bounded (bytes_of ds)
-bytes_all ds [] bs n few long even low high room h =
-    let d : take n bs ++ [] ≡ take n bs = append-nil (take n bs) in
-    let k : length (take n bs) ≡ n = length-take-le n bs room in
-    let f : bounded (Some (take n bs)) ≡ Some (take n bs) = bounded-some (take n bs) (omega arith) (omega arith) in
-    cc
-bytes_all ds (x ∷ rest) bs n few long even low high room h = absurd (omega arith)

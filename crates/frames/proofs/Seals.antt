@@ -1,29 +1,15 @@
 -- The byte that makes a frame's sum right.
-use Rattle.std.proofs.Common.{◌≡◌, ℕ, ◌+◌, ◌-◌, ◌%◌, ◌<◌, ◌≤◌, List, [], ◌∷◌, ◌++◌, length, get_or, take, drop, set, replicate, Some, sum, sym, ap, ◌∙◌, inl, inr, arith}
+use Rattle.std.proofs.Common.{◌≡◌, ℕ, ◌+◌, ◌-◌, ◌%◌, ◌<◌, ◌≤◌, List, [], ◌∷◌, ◌++◌, length, get_or, take, sum, ap, ◌∙◌, inl, inr, arith}
 use Rattle.std.proofs.lemmas.List.Sums.{sum_by-cons, sum_by_push, sum_by_more}
-use Rattle.std.proofs.lemmas.Bool.{cases_lt, cond-true, cond-false, ne_eqb, eq-eqb}
-use Rattle.std.proofs.lemmas.List.{take_all, take_more_set, take_at, length-append, length_push, length-drop, length-take, get_or_append_left, get_or_push, get_or_past, get_or-take}
+use Rattle.std.proofs.lemmas.Bool.{cases_lt}
+use Rattle.std.proofs.lemmas.List.{take_all, length_push, length-take, get_or_append_left, get_or_push, get_or_past, get_or-take}
 use Rattle.std.specs.List.{fold}
-use Rattle.frames.specs.declared.faults.FrameFault.TheVariants.{WrongSum}
-use Rattle.frames.specs.Numbers.{numbers}
-use Rattle.frames.specs.Text.{Good, Bytes, sealing, sealed, bytes_of, bounded}
-use Rattle.frames.specs.Outcome.{frame, fault, judged, line_outcome}
+use Rattle.frames.specs.Text.{Good, Bytes, sealing, sealed}
 
 -- a sum that wraps at each byte
 pub fold-wraps : (n : ℕ) (bs : List ℕ) → n < 256 → fold (λ t b. (t + b) % 256) n bs ≡ (n + sum bs) % 256
 fold-wraps n [] h = omega arith
 fold-wraps n (b ∷ bs) h = let s = sum_by-cons (λ x. x) b bs in fold-wraps ((n + b) % 256) bs (omega arith) ∙ omega arith
-
--- content and the closing byte, laid into an array
-pub sealed_array : (ys cs : List ℕ) (a : ℕ) → ys ≡ cs → length cs ≤ 23 → a ≡ sealing cs → take (length cs + 1) (set (ys ++ drop (length cs - 0) (replicate {A = ℕ} 24 0)) (length cs) a) ≡ sealed cs
-sealed_array ys cs a e high ea =
-    let post = drop (length cs - 0) (replicate {A = ℕ} 24 0) in
-    let d : length (drop (length cs - 0) (replicate {A = ℕ} 24 0)) ≡ 24 - (length cs - 0) = length-drop (length cs - 0) (replicate {A = ℕ} 24 0) in
-    let n : length ys ≡ length cs = ap length e in
-    let l = length-append ys post in
-    let s = take_more_set (ys ++ post) (length cs) a (omega arith) in
-    let t : take (length cs) (ys ++ post) ≡ ys = take_at ys post (length cs) n in
-    s ∙ ap (λ (x : List ℕ). x ++ (a ∷ [])) (t ∙ e) ∙ ap (λ (x : ℕ). cs ++ (x ∷ [])) ea
 
 pub sealed-good : (cs : List ℕ) → 1 ≤ length cs → length cs ≤ 23 → Good (sealed cs)
 sealed-good cs low high =
@@ -56,11 +42,3 @@ front_bytes bs n h k =
       | inl below ↦ rw (get_or-take n bs k 0 below) (h k)
       | inr above ↦ rw (get_or_past (take n bs) k 0 (let l = length-take n bs in omega arith)) (omega arith)
     ]
-
--- the two ways of a line whose characters ds write the bytes bs
-module _ (ds bs : List ℕ) (line : ℕ) (e : Some bs ≡ bounded (bytes_of ds)) where
-  pub sum_right : sum bs % 256 ≡ 0 → frame bs ≡ line_outcome line ds
-  sum_right z = sym (cond-true _ _ _ (eq-eqb (sum bs % 256) 0 z)) ∙ ap (judged line ds) e
-
-  pub sum_wrong : (sum bs % 256 ≡ 0 → ⊥) → (right : ℕ) → right ≡ sealing (take (length bs - 1) bs) → fault (numbers 1 2 line 0) (WrongSum line right) ≡ line_outcome line ds
-  sum_wrong z right is = ap (λ (b : ℕ). fault (numbers 1 2 line 0) (WrongSum line b)) is ∙ sym (cond-false _ _ _ (ne_eqb (sum bs % 256) 0 z)) ∙ ap (judged line ds) e

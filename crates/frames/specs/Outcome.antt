@@ -13,7 +13,7 @@ use Rattle.frames.specs.Text.{bytes_of, bounded, width, digit_run, sealing}
 
 -- the bytes of a frame
 abbrev pub body : Frame → List ℕ
-body f = take f.len f.bytes
+body f = f.bytes.items
 
 -- the bytes of a good frame, the end of the text, or what is wrong with the line: its layer, cause, line and node, and the fault
 pub data Outcome : Type 0 where

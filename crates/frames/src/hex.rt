@@ -1,9 +1,11 @@
 //! Hexadecimal digits, and the sum of bytes.
 
-ghost use Rattle.std.specs.Prelude.{◌≡◌, ◌+◌, ◌%◌, ◌<◌, ◌≤◌, true, false, length, take, IfSome, sum};
+ghost use Rattle.std.specs.Prelude.{◌≡◌, ◌+◌, ◌%◌, ◌<◌, ◌≤◌, true, false, length, IfSome, sum};
 ghost use Rattle.std.specs.List.{fold};
 ghost use Rattle.std.specs.Option.{option_map};
 ghost use Rattle.frames.specs.Text.{hex_digit, digit_value, byte_digits, bytes_of, bounded, digit_run, sealing};
+
+use rows::Row;
 
 /// The number that a digit, 0 to 9 or A to F, writes; none for any other character.
 pub fn digit_value(c: u8) -> Option<u8>
@@ -72,17 +74,18 @@ fn writes_frame(count: usize) -> bool
     count % 2 == 0 && count >= 4 && count <= 48
 }
 
-/// Writes the bytes of 4 to 48 digits to the front of `out`, and answers how many there are.
-pub(crate) fn bytes_into(digits: &[u8], out: &mut [u8; 24]) -> Option<usize>
-    ensures value { option_map (λ n. take n out.new) result ≡ bounded (bytes_of digits.now) }
-    ensures sized { IfSome result (λ n. (2 ≤ n) × (n ≤ 24)) }
+/// The 2 to 24 bytes that digits write; none for any other count or character.
+pub(crate) fn bytes_of(digits: &[u8]) -> Option<Row<u8, 24>>
+    ensures value { option_map (λ r. r.items) result ≡ bounded (bytes_of digits.now) }
+    ensures sized { IfSome result (λ r. (2 ≤ length r.items) × (length r.items ≤ 24)) }
 {
-    let count = digits.len();
-    if !writes_frame(count) {
+    if !writes_frame(digits.len()) {
         return None;
     }
-    for (i, pair) in digits.chunks_exact(2).enumerate() {
-        out[i] = 16 * digit_value(pair[0])? + digit_value(pair[1])?;
+    let mut bytes = Row::new(0);
+    for pair in digits.chunks_exact(2) {
+        let byte = 16 * digit_value(pair[0])? + digit_value(pair[1])?;
+        bytes.push(byte).unwrap();
     }
-    Some(count / 2)
+    Some(bytes)
 }

@@ -26,6 +26,7 @@ fn put_line(bytes: &[u8], out: &mut [u8], start: usize) -> usize
     ensures written { out.new ≡ placed out.old start (line_text bytes.now) }
     ensures stop { result ≡ start + length (line_text bytes.now) }
 {
+    // Kept: tried a zip of `chunks_exact_mut` with the bytes; the proof did not close, as nothing is known of what it wrote.
     for (i, b) in bytes.iter().enumerate() {
         put_byte(*b, out, start + 2 * i);
     }
@@ -46,7 +47,7 @@ fn fits(frames: &[Frame], room: usize) -> bool
     ensures { result ≡ nat_le (length (text_of frames.now)) room }
 {
     let mut spare = room;
-    // Kept: tried `try_fold` with `checked_sub`; not proved, as `runs` ties no call's total to that of the call before.
+    // Kept: tried `try_fold`; the proof did not close, since its clause does not tie a call's total to that of the call before.
     for frame in frames {
         let need = line_len(frame);
         if spare < need {

@@ -6,14 +6,15 @@ ghost use Rattle.frames.specs.Writing.{Sealed};
 
 use super::{Form, Frame};
 use crate::faults::{Flaw, FrameFault};
-use crate::hex::{bytes_into, digit_run, sealing_byte, sum_of};
+use crate::hex::{bytes_of, digit_run, sealing_byte, sum_of};
+use rows::Row;
 
 impl Frame {
     /// The frame's bytes, its kind first.
     pub fn bytes(&self) -> &[u8]
         ensures { result.now ≡ body self.now }
     {
-        &self.bytes[0..self.len]
+        self.bytes.as_slice()
     }
 
     /// The frame's kind: its first byte.
@@ -39,14 +40,10 @@ impl Frame {
         if count < 1 || count > 23 {
             return None;
         }
-        let last = sealing_byte(content);
-        let mut bytes = [0u8; 24];
-        bytes[0..count].copy_from_slice(content);
-        bytes[count] = last;
-        Some(Frame {
-            bytes,
-            len: count + 1,
-        })
+        let mut bytes = Row::new(0);
+        bytes.extend_from_slice(content).unwrap();
+        bytes.push(sealing_byte(content)).unwrap();
+        Some(Frame { bytes })
     }
 }
 
@@ -69,17 +66,17 @@ fn flaw_of(digits: &[u8]) -> Flaw
 pub(crate) fn frame_of(digits: &[u8], line: usize) -> Result<Frame, FrameFault>
     ensures { told result ≡ line_outcome line digits.now }
 {
-    let mut bytes = [0u8; 24];
-    let Some(len) = bytes_into(digits, &mut bytes) else {
+    let Some(bytes) = bytes_of(digits) else {
         let flaw = flaw_of(digits);
         return Err(FrameFault::Malformed { line, flaw });
     };
-    let total = sum_of(&bytes[0..len]);
+    let content = bytes.as_slice();
+    let total = sum_of(content);
     if total != 0 {
-        let right = bytes[len - 1].wrapping_sub(total);
+        let right = content[content.len() - 1].wrapping_sub(total);
         return Err(FrameFault::WrongSum { line, right });
     }
-    Ok(Frame { bytes, len })
+    Ok(Frame { bytes })
 }
 
 impl Form {
