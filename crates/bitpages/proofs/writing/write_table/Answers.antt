@@ -32,8 +32,8 @@ returns-in_err-write_frames c =
     let packed = c.as_slice.ensures.value ∙ c.pack-bytes.ensures (size n) (omega (arith, size_room n)) (omega (arith, size-tight n)) in
     let first = ap (map body) (IfOk-at_ok _ c.unwrap.ensures c.push.ensures.ok ∙ ap (λ (fs : List Frame). fs ++ (c.frame_of-heading.result ∷ [])) c.new-frames.ensures) ∙ ap (λ (h : List ℕ). h ∷ []) c.frame_of-heading.ensures in
     let page =
-        ap (map body) c.as_slice-2.ensures.value ∙ c.put_shares.ensures ∙ ap (λ (hs : List (List ℕ)). hs ++ map bits_frame (parts (share n) (count n) c.as_slice.result.now)) first
-        ∙ ap (λ (ds : List ℕ). heading_frame n ∷ map bits_frame (parts (share n) (count n) ds)) packed in
+    ap (map body) c.as_slice-2.ensures.value ∙ c.put_shares.ensures ∙ ap (λ (hs : List (List ℕ)). hs ++ map bits_frame (parts (share n) (count n) c.as_slice.result.now)) first
+    ∙ ap (λ (ds : List ℕ). heading_frame n ∷ map bits_frame (parts (share n) (count n) ds)) packed in
     let p = err_from_is_err_and c.from_residual.result c.from_residual.ensures.1 in
     rw (p.1, p.2) ((omega arith, omega arith, long), subst (λ xs. Wrote xs c.args.out.now c.write_frames.new.out (Err c.in_err-write_frames.field-0.0)) (ap text page) c.in_err-write_frames.ensures.wrote)
 
@@ -45,6 +45,6 @@ returns c =
     let packed = c.as_slice.ensures.value ∙ c.pack-bytes.ensures (size n) (omega (arith, size_room n)) (omega (arith, size-tight n)) in
     let first = ap (map body) (IfOk-at_ok _ c.unwrap.ensures c.push.ensures.ok ∙ ap (λ (fs : List Frame). fs ++ (c.frame_of-heading.result ∷ [])) c.new-frames.ensures) ∙ ap (λ (h : List ℕ). h ∷ []) c.frame_of-heading.ensures in
     let page =
-        ap (map body) c.as_slice-2.ensures.value ∙ c.put_shares.ensures ∙ ap (λ (hs : List (List ℕ)). hs ++ map bits_frame (parts (share n) (count n) c.as_slice.result.now)) first
-        ∙ ap (λ (ds : List ℕ). heading_frame n ∷ map bits_frame (parts (share n) (count n) ds)) packed in
+    ap (map body) c.as_slice-2.ensures.value ∙ c.put_shares.ensures ∙ ap (λ (hs : List (List ℕ)). hs ++ map bits_frame (parts (share n) (count n) c.as_slice.result.now)) first
+    ∙ ap (λ (ds : List ℕ). heading_frame n ∷ map bits_frame (parts (share n) (count n) ds)) packed in
     ((omega arith, omega arith, long), subst (λ xs. Wrote xs c.args.out.now c.write_frames.new.out (Ok c.in_ok-write_frames.field-0)) (ap text page) c.in_ok-write_frames.ensures.wrote)
