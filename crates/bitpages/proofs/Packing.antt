@@ -1,13 +1,13 @@
 -- Tables packed into bytes, and bytes put into frames.
-use Rattle.std.proofs.Common.{◌≡◌, ℕ, suc, ◌+◌, ◌*◌, ◌%◌, ◌^◌, ◌<◌, ◌≤◌, min, Bool, true, false, cond, List, [], ◌∷◌, ◌++◌, map, reverse, length, get_or, take, drop, set, sym, refl, ap, ◌∙◌, inl, inr, mul-le-mul_right, suc-mul, add-one, arith, pow_mono}
+use Rattle.std.proofs.Common.{◌≡◌, ℕ, suc, ◌+◌, ◌*◌, ◌%◌, ◌^◌, ◌<◌, ◌≤◌, min, Bool, true, false, cond, List, [], ◌∷◌, ◌++◌, map, reverse, length, get_or, take, drop, sym, refl, ap, ◌∙◌, inl, inr, mul-le-mul_right, suc-mul, add-one, arith, pow_mono}
 use native.Mathlib.Nat.{two-pow-succ}
 use Rattle.std.proofs.lemmas.Nat.{one_shl}
-use Rattle.std.proofs.lemmas.List.{append_assoc, length-append, length-drop, length-reverse, length-take-le, map_push, reverse-append, drop-drop, drop_all, drop_at, take_all, take_at, take_more, take_more_set}
+use Rattle.std.proofs.lemmas.List.{append_assoc, length-append, length-drop, length-map, length-reverse, length-take-le, map_push, reverse-append, drop-drop, drop_all, drop_at, take_all, take_at, take_more}
 use Rattle.std.proofs.lemmas.Bool.{cases_lt}
 use Rattle.functions.specs.Words.{number}
 use Rattle.bitpages.specs.Table.{size, share, count, parts, byte_of}
 use Rattle.bitpages.proofs.Entries.{byte_of-below}
-use Rattle.bitpages.proofs.Parts.{parts_more}
+use Rattle.bitpages.proofs.Parts.{length-parts, parts_more}
 use Rattle.bitpages.proofs.Sizes.{share-low, whole}
 
 -- a byte with one entry more
@@ -65,16 +65,20 @@ module _ {X : Type 0} (s : ℕ) (rest part more : List X) (cut : rest ≡ part +
 pub front-long : {X : Type 0} (s : ℕ) (rest part more : List X) → rest ≡ part ++ more → length part ≡ s → length part ≡ min s (length rest)
 front-long s rest part more cut long = omega (arith, ap length cut, length-append part more)
 
--- one part more, where f is what the places of an array hold of the parts
-pub part_more : {X Y Z : Type 0} (f : Y → Z) (g : List X → Z) (s k : ℕ) (xs : List X) (ys : List Y) (y : Y) (front : List Z) (at : ℕ) → at < length ys → map f (take at ys) ≡ front ++ map g (parts s k xs) → f y ≡ g (take s (drop (k * s) xs))
-    → map f (take (at + 1) (set ys at y)) ≡ front ++ map g (parts s (k + 1) xs)
-part_more {X} {Y} {Z} f g s k xs ys y front at h before is =
-    ap (map f) (take_more_set ys at y h)
-    ∙ map_push f (take at ys) y
+-- one part more, where f is what an element is of the parts
+pub part_push : {X Y Z : Type 0} (f : Y → Z) (g : List X → Z) (s k : ℕ) (xs : List X) (ys : List Y) (y : Y) (front : List Z) → map f ys ≡ front ++ map g (parts s k xs) → f y ≡ g (take s (drop (k * s) xs))
+    → map f (ys ++ (y ∷ [])) ≡ front ++ map g (parts s (k + 1) xs)
+part_push {X} {Y} {Z} f g s k xs ys y front before is =
+    map_push f ys y
     ∙ ap (λ (zs : List Z). zs ++ (f y ∷ [])) before
     ∙ ap (λ (z : Z). (front ++ map g (parts s k xs)) ++ (z ∷ [])) is
     ∙ append_assoc front (map g (parts s k xs)) _
     ∙ ap (λ (zs : List Z). front ++ zs) (sym (map_push g (parts s k xs) (take s (drop (k * s) xs))) ∙ ap (map g) (sym (parts_more s k xs)))
+
+-- and then there are as many elements more as parts
+pub parts_long : {X Y Z : Type 0} (f : Y → Z) (g : List X → Z) (s k : ℕ) (xs : List X) (ys zs : List Y) → map f ys ≡ map f zs ++ map g (parts s k xs) → length ys ≡ length zs + k
+parts_long f g s k xs ys zs is =
+    sym (length-map ys f) ∙ ap length is ∙ length-append (map f zs) (map g (parts s k xs)) ∙ omega (arith, length-map zs f, length-map (parts s k xs) g, length-parts s k xs)
 
 -- every share lies within the bytes
 pub share-room : (n k : ℕ) → k < count n → k * share n + share n ≤ size n

@@ -1,8 +1,6 @@
 -- The frames of a page, read one after another.
-use Rattle.std.proofs.Common.{◌≡◌, ℕ, zero, suc, ◌+◌, ◌-◌, ◌*◌, ◌<◌, ◌≤◌, List, [], ◌++◌, length, take, drop, IfSome, Some, Ok, Option, sym, refl, ap, ◌∙◌, suc-mul, zero-add, zero-mul, arith, rules}
-use borrow.Rule.Slice.PartMut.{put_mid}
-use Rattle.std.proofs.lemmas.List.{length-take-le, length-drop, places}
-use Rattle.std.proofs.lemmas.Slice.{take-put_mid}
+use Rattle.std.proofs.Common.{◌≡◌, ℕ, zero, suc, ◌+◌, ◌-◌, ◌*◌, ◌<◌, ◌≤◌, List, [], ◌++◌, length, take, drop, IfSome, Some, Ok, Option, sym, refl, ap, ◌∙◌, suc-mul, zero-add, zero-mul, arith}
+use Rattle.std.proofs.lemmas.List.{length-append, length-take-le, length-drop}
 use Rattle.frames.specs.declared.frame.Frame.{Frame}
 use Rattle.frames.specs.Outcome.{body, past, line_after}
 use Rattle.frames.specs.Pages.{Page, page, onward}
@@ -52,18 +50,16 @@ module _ {n at : ℕ} {ds xs : List ℕ} {line : ℕ} {all : Page Packed} (l : L
 length-carried : (n : ℕ) (bs : List ℕ) → length bs ≡ share n + 2 → length (carried n bs) ≡ share n
 length-carried n bs h = length-take-le (share n) (drop 1 bs) (let d = length-drop 1 bs in omega arith)
 
--- the share of the frame that was read, copied into a buffer of which the front has those before it
-module _ (n at s line next : ℕ) (old es bs xs ys : List ℕ) (all : Page Packed) (o : Option Frame) (f : Frame) (l : Left n at (take at old) xs line all) (less : at < size n) (room : size n ≤ length old) (is : s ≡ share n) where
+-- the share of the frame that was read, put behind those before it
+module _ (n s line next : ℕ) (ds es bs xs ys : List ℕ) (all : Page Packed) (o : Option Frame) (f : Frame) (l : Left n (length ds) ds xs line all) (less : length ds < size n) (is : s ≡ share n) where
   pub next_share : answered (λ (f : Frame). carried n (body f)) (Ok o) ≡ bits n xs line → o ≡ Some f → IfSome o (λ f. length (body f) ≡ share n + 2) → bs ≡ body f → es ≡ take (1 + s - 1) (drop 1 bs) → ys ≡ past xs → next ≡ line_after xs line
-      → (length (put_mid at (at + s - at) old es) ≡ length old) × Left n (at + s) (take (at + s) (put_mid at (at + s - at) old es)) ys next all
+      → (length (ds ++ es) ≡ length ds + share n) × Left n (length (ds ++ es)) (ds ++ es) ys next all
   next_share a some h bytes e p q =
       let m = left-more l less in
-      let in_size = left-room l less in
-      let b = onward-some (λ (f : Frame). carried n (body f)) line (then_shares n m.0 (take at old) xs line) m.2 o f a some in
+      let b = onward-some (λ (f : Frame). carried n (body f)) line (then_shares n m.0 ds xs line) m.2 o f a some in
       let long : length (body f) ≡ share n + 2 = rw some at h in
       let k : 1 + s - 1 ≡ share n = omega arith in
       let c : es ≡ carried n (body f) = e ∙ ap (λ (k : ℕ). take k (drop 1 bs)) k ∙ ap (carried n) bytes in
-      let wide : length es ≡ s = ap length c ∙ length-carried n (body f) long ∙ sym is in
+      let wide : length (ds ++ es) ≡ length ds + share n = length-append ds es ∙ ap (λ (xs : List ℕ). length ds + length xs) c ∙ ap (λ (k : ℕ). length ds + k) (length-carried n (body f) long) in
       let g = left-got l less m.0 (carried n (body f)) ys next m.1 b p q in
-      let t : take (at + s) (put_mid at (at + s - at) old es) ≡ take at old ++ es = take-put_mid at (at + s - at) old es (at + s) (omega arith) (omega arith) in
-      (search (rules, places), rw (t, c, is) g)
+      (wide, rw (wide, c) g)

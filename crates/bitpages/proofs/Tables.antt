@@ -8,17 +8,14 @@ use Rattle.functions.proofs.Rows.{tree-same}
 use Rattle.bitpages.specs.Calls.{Holds, Filled}
 use Rattle.frames.specs.Pages.{page}
 use Rattle.bitpages.specs.Page.{Packed, packed, paged, alone}
-use Rattle.bitpages.specs.Table.{size, entry_at, entries, meant}
+use Rattle.bitpages.specs.Table.{entry_at, entries, meant}
 use Rattle.bitpages.specs.Written.{table_text}
 use Rattle.bitpages.proofs.Entries.{entry_at_clear, length-entries, get_or-entries}
 use Rattle.bitpages.proofs.Pages.{page_laws, page-told}
 
--- a table whose entries are those of the first bytes of a buffer, into which a page was read, holds the page
-holds : (n : ℕ) (xs bytes rest : List ℕ) (line after k : ℕ) (table : List Bool) → paged xs line ≡ page (packed n (take (size n) bytes)) rest after → k ≡ size n → length table ≡ 4096 → ((i : ℕ) → i < 4096 → get_or table i false ≡ entry_at (take (k) bytes) i)
-    → Holds n (take (size n) bytes) table
-holds n xs bytes rest line after k table e many long unpacked =
-    let ds = take (size n) bytes in
-    let each : (i : ℕ) → i < 4096 → get_or table i false ≡ entry_at (take (size n) bytes) i = λ i h. unpacked i h ∙ ap (λ (k : ℕ). entry_at (take k bytes) i) many in
+-- a table whose entries are those of the bytes of a page holds it
+holds : (n : ℕ) (xs ds rest : List ℕ) (line after : ℕ) (table : List Bool) → paged xs line ≡ page (packed n ds) rest after → length table ≡ 4096 → ((i : ℕ) → i < 4096 → get_or table i false ≡ entry_at ds i) → Holds n ds table
+holds n xs ds rest line after table e long each =
     let t = (page-told n xs ds rest line after e).table in
     let high : n ≤ 12 = t.high in
     let room : 2 ^ n ≤ 4096 = pow_mono high in
@@ -30,10 +27,10 @@ holds n xs bytes rest line after k table e many long unpacked =
       means = tree-same n (λ i. get_or table i false) (entry_at ds) (λ i l. each i (omega arith));
     }
 
-pub filled : (d : Packed) (n : ℕ) (xs bytes rest : List ℕ) (line after k : ℕ) (table : List Bool) → paged xs line ≡ page d rest after → d ≡ packed n (take (size n) bytes) → k ≡ size n → length table ≡ 4096 → ((i : ℕ) → i < 4096 → get_or table i false ≡ entry_at (take k bytes) i)
+pub filled : (d : Packed) (n : ℕ) (xs ds rest : List ℕ) (line after : ℕ) (table : List Bool) → paged xs line ≡ page d rest after → d ≡ packed n ds → length table ≡ 4096 → ((i : ℕ) → i < 4096 → get_or table i false ≡ entry_at ds i)
     → (n ≡ d.arity) × Holds d.arity d.bytes table
-filled d n xs bytes rest line after k table e is many long unpacked =
-    subst (λ (d : Packed). (n ≡ d.arity) × Holds d.arity d.bytes table) (sym is) (refl, holds n xs bytes rest line after k table (e ∙ ap (λ (d : Packed). page d rest after) is) many long unpacked)
+filled d n xs ds rest line after table e is long each =
+    subst (λ (d : Packed). (n ≡ d.arity) × Holds d.arity d.bytes table) (sym is) (refl, holds n xs ds rest line after table (e ∙ ap (λ (d : Packed). page d rest after) is) long each)
 
 -- a text that loads is the text of the table that it loads
 pub loaded_text : (xs : List ℕ) (before after : List Bool) (r : Result ℕ PageFault) → (line : ℕ) × Filled (alone xs 1) [] line before after r → IfOk r (λ n. xs ≡ table_text n (take (2 ^ n) after))

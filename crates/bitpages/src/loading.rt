@@ -5,7 +5,7 @@ ghost use Rattle.frames.specs.Pages.{ReadsPage};
 ghost use Rattle.frames.specs.Reading.{left};
 ghost use Rattle.bitpages.specs.Calls.{Filled};
 ghost use Rattle.bitpages.specs.Page.{packed, shares, paged, alone};
-ghost use Rattle.bitpages.specs.Table.{size, count, entry_at};
+ghost use Rattle.bitpages.specs.Table.{count, entry_at};
 ghost use Rattle.bitpages.specs.Written.{table_text, PageLaws};
 
 use crate::records::{Arity, read_bits, read_heading};
@@ -13,35 +13,40 @@ use bits::bit_of;
 use frames::faults::PageFault;
 use frames::reader::FrameReader;
 use frames::records::read_end;
+use rows::Row;
 
-/// Reads the frames of a page, and puts the bytes that they carry at the front of `bytes`.
-fn read_bytes(
-    reader: &mut FrameReader,
+/// What a page holds: a number of arguments, and the bytes of their table.
+#[derive(Drop)]
+struct Page {
     arity: Arity,
-    bytes: &mut [u8; 512],
-) -> Result<(), PageFault>
-    ensures { ReadsPage (λ d _. d ≡ packed arity.n (take (size arity.n) bytes.new)) (shares arity.n (count arity.n) [] (left reader.old) reader.old.line) (left reader.new) reader.new.line result }
-{
-    let size = arity.bytes();
-    let share = arity.share();
-    // Kept: over chunks_exact_mut the invariant cannot name the bytes, so each part is cut out by its place.
-    for at in (0..size).step_by(share) {
-        let line = reader.line();
-        let frame = read_bits(reader, arity)?.ok_or(PageFault::Missing { line })?;
-        bytes[at..at + share].copy_from_slice(&frame.bytes()[1..1 + share]);
-    }
-    Ok(())
+    bytes: Row<u8, 512>,
 }
 
-/// Reads a page, puts the bytes of its table at the front of `bytes`, and answers its number of arguments.
-fn read_page(reader: &mut FrameReader, bytes: &mut [u8; 512]) -> Result<Arity, PageFault>
-    ensures { ReadsPage (λ d a. d ≡ packed a.n (take (size a.n) bytes.new)) (paged (left reader.old) reader.old.line) (left reader.new) reader.new.line result }
+/// Reads the frames of a page, and gives the bytes that they carry.
+fn read_bytes(reader: &mut FrameReader, arity: Arity) -> Result<Row<u8, 512>, PageFault>
+    ensures { ReadsPage (λ d bytes. d ≡ packed arity.n bytes.items) (shares arity.n (count arity.n) [] (left reader.old) reader.old.line) (left reader.new) reader.new.line result }
+{
+    let share = arity.share();
+    let mut bytes = Row::new(0);
+    for _i in 0..arity.frames() {
+        let line = reader.line();
+        let frame = read_bits(reader, arity)?.ok_or(PageFault::Missing { line })?;
+        bytes
+            .extend_from_slice(&frame.bytes()[1..1 + share])
+            .unwrap();
+    }
+    Ok(bytes)
+}
+
+/// Reads a page.
+fn read_page(reader: &mut FrameReader) -> Result<Page, PageFault>
+    ensures { ReadsPage (λ d page. d ≡ packed page.arity.n page.bytes.items) (paged (left reader.old) reader.old.line) (left reader.new) reader.new.line result }
 {
     let line = reader.line();
     let n = read_heading(reader)?.ok_or(PageFault::Missing { line })?;
     let arity = Arity { n };
-    read_bytes(reader, arity, bytes)?;
-    Ok(arity)
+    let bytes = read_bytes(reader, arity)?;
+    Ok(Page { arity, bytes })
 }
 
 /// Sets every entry of a table to the bit that holds it, and to false where no byte does.
@@ -60,10 +65,9 @@ fn unpack(bytes: &[u8], table: &mut [bool; 4096])
 pub fn read_table(reader: &mut FrameReader, table: &mut [bool; 4096]) -> Result<usize, PageFault>
     ensures { Filled (paged (left reader.old) reader.old.line) (left reader.new) reader.new.line table.old table.new result }
 {
-    let mut bytes = [0u8; 512];
-    let arity = read_page(reader, &mut bytes)?;
-    unpack(&bytes[..arity.bytes()], table);
-    Ok(arity.n)
+    let page = read_page(reader)?;
+    unpack(page.bytes.as_slice(), table);
+    Ok(page.arity.n)
 }
 
 /// Fills a table from a text that is a page and nothing else, and answers the page's number of arguments; on a fault
@@ -75,9 +79,9 @@ pub fn load_table(text: &[u8], table: &mut [bool; 4096]) -> Result<usize, PageFa
     ensures laws { PageLaws }
 {
     let mut reader = FrameReader::new(text);
-    let mut bytes = [0u8; 512];
-    let arity = read_page(&mut reader, &mut bytes)?;
+    // Kept: one function for this and read_table would take the reading as a closure, no plainer than these lines.
+    let page = read_page(&mut reader)?;
     read_end(&mut reader)?;
-    unpack(&bytes[..arity.bytes()], table);
-    Ok(arity.n)
+    unpack(page.bytes.as_slice(), table);
+    Ok(page.arity.n)
 }

@@ -5,7 +5,7 @@ ghost use Rattle.frames.specs.Outcome.{body};
 ghost use Rattle.frames.specs.Reading.{left, Moved};
 ghost use Rattle.frames.specs.Records.{answered};
 ghost use Rattle.bitpages.specs.Page.{heading, carried, bits};
-ghost use Rattle.bitpages.specs.Table.{size, share};
+ghost use Rattle.bitpages.specs.Table.{size, share, count};
 
 use bits::power;
 use frames::faults::RecordFault;
@@ -44,6 +44,13 @@ impl Arity {
         ensures bound { (1 ≤ result) × (result ≤ 16) }
     {
         self.bytes().min(16)
+    }
+
+    /// How many frames carry them.
+    pub(crate) fn frames(self) -> usize
+        ensures { result ≡ count self.n }
+    {
+        self.bytes() / self.share()
     }
 }
 

@@ -15,6 +15,7 @@ use buffers::WriteRefusal;
 use frames::frame::Frame;
 use frames::kinds::Kind;
 use frames::writer::write_frames;
+use rows::Row;
 
 /// Why a table was not written.
 #[derive(Clone, Copy, PartialEq, Eq, Debug)]
@@ -59,14 +60,16 @@ fn byte_of(eight: &[bool]) -> u8
     byte
 }
 
-/// Packs the entries of a table into the first bytes, eight a byte.
-fn pack(table: &[bool], bytes: &mut [u8; 512])
+/// The entries of a table packed into bytes, eight a byte.
+fn pack(table: &[bool]) -> Row<u8, 512>
     requires { length table.now ≤ 4096 }
-    ensures { (many : ℕ) → length table.now ≤ 8 * many → 8 * many ≤ length table.now + 7 → take many bytes.new ≡ map byte_of (parts 8 many table.now) }
+    ensures { (many : ℕ) → length table.now ≤ 8 * many → 8 * many ≤ length table.now + 7 → result.items ≡ map byte_of (parts 8 many table.now) }
 {
-    for (i, eight) in table.chunks(8).enumerate() {
-        bytes[i] = byte_of(eight);
+    let mut bytes = Row::new(0);
+    for eight in table.chunks(8) {
+        bytes.push(byte_of(eight)).unwrap();
     }
+    bytes
 }
 
 /// The frame of a kind with these fields.
@@ -74,24 +77,21 @@ fn frame_of(kind: Kind, fields: &[u8]) -> Frame
     requires { length fields.now ≤ 22 }
     ensures { body result ≡ sealed (kind_byte kind ∷ fields.now) }
 {
-    let len = fields.len() + 1;
-    let mut content = [u8::from(kind); 23];
-    content[1..len].copy_from_slice(fields);
-    Frame::sealed(&content[0..len]).unwrap()
+    let mut content: Row<u8, 23> = Row::new(0);
+    content.push(u8::from(kind)).unwrap();
+    content.extend_from_slice(fields).unwrap();
+    Frame::sealed(content.as_slice()).unwrap()
 }
 
-/// Puts the frames that carry the bytes of a table behind the first of `frames`, and answers how many frames there are
-/// then.
-fn put_shares(arity: Arity, bytes: &[u8], frames: &mut [Frame; 33]) -> usize
-    requires { length bytes.now ≡ size arity.n }
-    ensures many { result ≡ count arity.n + 1 }
-    ensures bodies { map body (take result frames.new) ≡ map body (take 1 frames.old) ++ map bits_frame (parts (share arity.n) (count arity.n) bytes.now) }
+/// Puts the frames that carry the bytes of a table behind others.
+fn put_shares(arity: Arity, bytes: &[u8], frames: &mut Row<Frame, 33>)
+    requires bytes { length bytes.now ≡ size arity.n }
+    requires room { length frames.old.items ≤ 1 }
+    ensures { map body frames.new.items ≡ map body frames.old.items ++ map bits_frame (parts (share arity.n) (count arity.n) bytes.now) }
 {
-    let share = arity.share();
-    for (k, part) in bytes.chunks_exact(share).enumerate() {
-        frames[k + 1] = frame_of(Kind::Bits, part);
+    for part in bytes.chunks_exact(arity.share()) {
+        frames.push(frame_of(Kind::Bits, part)).unwrap();
     }
-    bytes.len() / share + 1
 }
 
 /// Writes the page of the function of n arguments with this table to the front of `out`, and answers how many bytes it
@@ -103,10 +103,10 @@ pub fn write_table(n: usize, table: &[bool], out: &mut [u8]) -> Result<usize, Ta
         return Err(TableRefusal::NoTable);
     }
     let arity = Arity { n };
-    let size = arity.bytes();
-    let mut bytes = [0u8; 512];
-    pack(table, &mut bytes);
-    let mut frames = [frame_of(Kind::BitPage, &[n as u8]); 33];
-    let len = put_shares(arity, &bytes[..size], &mut frames);
-    Ok(write_frames(&frames[..len], out)?)
+    let bytes = pack(table);
+    let heading = frame_of(Kind::BitPage, &[n as u8]);
+    let mut frames = Row::new(heading);
+    frames.push(heading).unwrap();
+    put_shares(arity, bytes.as_slice(), &mut frames);
+    Ok(write_frames(frames.as_slice(), out)?)
 }
