@@ -1,9 +1,8 @@
 -- A diagram with one node more.
-use Rattle.std.proofs.Common.{◌≡◌, ℕ, zero, suc, ◌+◌, ◌-◌, ◌<◌, ◌≤◌, Bool, true, false, List, length, take, sym, refl, ap, ◌∙◌, subst, ⊎_elim, arith}
+use Rattle.std.proofs.Common.{◌≡◌, ℕ, zero, suc, ◌+◌, ◌<◌, ◌≤◌, Bool, true, false, List, sym, refl, ap, ◌∙◌, subst, ⊎_elim, arith}
 use Rattle.std.proofs.lemmas.Bool.{cases_lt, le-ltb}
-use Rattle.std.proofs.lemmas.List.{get_or-take}
 use Rattle.nodes.specs.declared.node.Node.{Node}
-use Rattle.nodes.specs.Diagrams.{at, blank, down, mean, level, Placed, Ordered, Reduced, Inner}
+use Rattle.nodes.specs.Diagrams.{at, down, mean, level, Placed, Ordered, Reduced, Inner}
 use Rattle.nodes.specs.Stores.{Absent}
 use Rattle.nodes.proofs.Canonical.{Look, stands, passes, look, level-end, level-node}
 
@@ -110,11 +109,3 @@ reduced_grown c xs ys node r g new apart absent =
         (λ (k : c + 2 ≤ b). omega arith)
         (cases_lt b (c + 2)))
         (cases_lt a (c + 2))
-
--- the first c nodes by themselves
-module _ (xs : List Node) (c : ℕ) (room : c ≤ length xs) where
-  pub front-agree : Agree xs (take c xs) c
-  front-agree n two less = get_or-take c xs (n - 2) blank (omega arith)
-
-  pub front-mean : (m : ℕ) → Ordered m xs c → (root : ℕ) → root < c + 2 → mean (take c xs) m 0 root ≡ mean xs m 0 root
-  front-mean m o root rc = mean-agree m c xs (take c xs) o front-agree m 0 root rc

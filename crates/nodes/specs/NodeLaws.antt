@@ -92,7 +92,7 @@ column_ends s d n h =
     go : (b : Bool) → has s.nodes.items (length s.nodes.items) d n ≡ b → (cond b n 0 == 1) ≡ (n == 1)
     go true e = refl
     go false e = elim (cases_lt n 2) [
-      | inl l ↦ absurd (true≢false (sym (there_has {xs = s.nodes.items} {c = (length s.nodes.items)} {d = d} (end l)) ∙ e))
+      | inl l ↦ absurd (true≢false (sym (there_has {xs = s.nodes.items} {c = length s.nodes.items} {d = d} (end l)) ∙ e))
       | inr l ↦ sym (ne_eqb n 1 (λ q. omega arith))
     ]
 

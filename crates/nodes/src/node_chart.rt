@@ -10,7 +10,7 @@ pub(crate) const ROOM: usize = 1024;
 /// A function of at most 16 arguments by its reduced ordered diagram of at most 1,024 nodes.
 #[derive(Clone, Copy)]
 pub struct NodeChart {
-    // Kept: numbers in place of boxes, as nodes are shared.
+    // Kept: numbers in place of boxes, as nodes are shared and no heap is used here.
     pub(crate) nodes: Row<Node, ROOM>,
     pub(crate) arity: usize,
     pub(crate) root: u16,

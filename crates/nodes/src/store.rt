@@ -8,7 +8,7 @@ use rows::Row;
 /// The nodes made so far, with an index by hash: each bucket's nodes are linked from its last one back.
 #[derive(Drop)]
 pub(crate) struct Store {
-    // Kept: numbers in place of boxes, as nodes are shared.
+    // Kept: numbers in place of boxes, as nodes are shared and no heap is used here.
     pub(crate) nodes: Row<Node, ROOM>,
     pub(crate) heads: [Option<u16>; ROOM],
     pub(crate) nexts: [Option<u16>; ROOM],
