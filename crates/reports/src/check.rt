@@ -30,24 +30,17 @@ pub fn next_line(heap: Global, reader: &mut FrameReader) -> Result<Option<LineRe
     ensures moved { Moved reader.old reader.new }
 {
     let line = reader.line();
-    match reader.next() {
-        Ok(found) => {
-            let Some(frame) = found else {
-                return Ok(None);
-            };
-            let words = frame_text(heap, line, &frame)?;
-            let text = format!(in heap; "{words}\n")?;
-            let faulty = false;
-            Ok(Some(LineReport { text, faulty }))
-        }
+    let (words, faulty) = match reader.next() {
+        Ok(None) => return Ok(None),
+        Ok(Some(frame)) => (frame_text(heap, line, &frame)?, false),
         Err(fault) => {
             let whole = PageFault::Record(RecordFault::Frame(fault));
-            let words = fault_text(heap, &whole)?;
-            let text = format!(in heap; "{words}\n")?;
             let faulty = true;
-            Ok(Some(LineReport { text, faulty }))
+            (fault_text(heap, &whole)?, faulty)
         }
-    }
+    };
+    let text = format!(in heap; "{words}\n")?;
+    Ok(Some(LineReport { text, faulty }))
 }
 
 /// How many lines there are, and how many of them are good and faulty.
