@@ -1,14 +1,10 @@
 -- The live signals after a split.
-use Rattle.std.proofs.Common.{◌≡◌, ℕ, ◌+◌, ◌-◌, ◌<◌, ◌≤◌, min, Bool, false, List, [], ◌∷◌, ◌++◌, map, length, get_or, take, drop, set, sym, refl, ap, ◌∙◌, arith}
+use Rattle.std.proofs.Common.{◌≡◌, ℕ, ◌+◌, ◌-◌, ◌<◌, ◌≤◌, List, [], ◌∷◌, ◌++◌, length, take, drop, set, sym, refl, ap, ◌∙◌, arith}
 use Rattle.std.specs.List.{range_with_len}
-use Rattle.std.proofs.lemmas.List.FromFn.{length-map-range_with_len, map-range_with_len_more, get_or-map-range_with_len}
-use Rattle.std.proofs.lemmas.List.{length-append, length-drop, length-map, get_or-map, append-nil, map-id, take_all, take_at, take_more_set}
+use Rattle.std.proofs.lemmas.List.FromFn.{map-range_with_len_more}
+use Rattle.std.proofs.lemmas.List.{length-append, length-drop, map-id, take_all, take_at, take_more_set}
 use Rattle.std.proofs.lemmas.Slice.{take-put_mid}
 use borrow.Rule.Slice.PartMut.{put_mid}
-use Rattle.functions.specs.Functions.{Fn, bit, value, under}
-use Rattle.functions.proofs.Values.{value_under}
-use Rattle.families.specs.Tables.{tabled}
-use Rattle.mapping.proofs.Splitting.{tabled-same}
 
 -- the new signals, one more
 pub range_push : (first i : ℕ) (xs : List ℕ) → i < length xs → take i xs ≡ range_with_len first i → take (i + 1) (set xs i (first + i)) ≡ range_with_len first (i + 1)

@@ -68,7 +68,6 @@ fn place_of(j: usize, t: usize) -> usize
 
 /// The table whose entry e is the bit of weight 2^(`j` - 1 - `t`) of the code of the class with the number at e.
 fn code_table<R: CodeRule>(rule: &R, j: usize, t: usize, numbers: &[usize]) -> u32
-    requires few { j ≤ 4 }
     requires inside { t < j }
     requires short { length numbers.now ≤ 32 }
     ensures { result ≡ number_table (R.CodeRule.code rule.now) j numbers.now t }
@@ -85,7 +84,6 @@ pub(crate) fn add_code_cells<R: CodeRule>(
     j: usize,
     numbers: &[usize],
 )
-    requires few { j ≤ 4 }
     requires room { length (cells_of netlist.old) + j ≤ 47 }
     requires short { length numbers.now ≤ 32 }
     ensures cells { cells_of netlist.new ≡ cells_of netlist.old ++ code_cells (R.CodeRule.code rule.now) j pins.items numbers.now j }

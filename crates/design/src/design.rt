@@ -13,6 +13,7 @@ pub struct Design<C: Chart, R: CodeRule, F: CellFamily> {
     pub(crate) rule: R,
     pub(crate) family: F,
     pub(crate) inputs: u8,
+    // Kept: as many of these are live as the chart has arguments, so that a length beside would say the same again.
     pub(crate) live: [u8; 16],
     pub(crate) netlist: Netlist,
 }

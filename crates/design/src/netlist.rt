@@ -12,6 +12,7 @@ use rows::Row;
 #[derive(Clone, Copy)]
 pub(crate) struct Netlist {
     pub(crate) cells: Row<Cell, 48>,
+    // Kept: a call on a closed design is refused when it is made, so that the state is a value and no type.
     pub(crate) closed: bool,
     ghost room: { length cells.items + (if closed then 0 else 1) ≤ 48 },
 }
@@ -65,6 +66,7 @@ impl Netlist {
     pub(crate) fn signals(&self, inputs: u16) -> Signals
         ensures { result ≡ signals (input_bits inputs) (cells_of self.now) }
     {
+        // Kept: one function for this and the intake's pin would take how a cell yields its bit, no plainer than this loop.
         let mut signals = Signals::of_inputs(inputs);
         for cell in self.cells.as_slice() {
             signals.push(cell.bit(&signals)).unwrap();

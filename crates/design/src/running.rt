@@ -18,8 +18,8 @@ use mapping::refusal::Refusal;
 use rules::rule::CodeRule;
 
 impl<C: Chart, R: CodeRule, F: CellFamily> Design<C, R, F> {
-    /// Makes a call, which is lent as much of the strip or of the buffer as it names, or all of it if that is less.
-    fn made(
+    /// What a call answers that is made, or why it is refused.
+    fn try_call(
         &mut self,
         call: Call,
         strip: &mut [C::Place],
@@ -56,10 +56,11 @@ impl<C: Chart, R: CodeRule, F: CellFamily> Design<C, R, F> {
     pub fn call(&mut self, call: Call, strip: &mut [C::Place], out: &mut [u8]) -> Answer
         ensures { Does C.Chart R.CodeRule F.CellFamily (setting C.Chart R.CodeRule F.CellFamily self.old strip.old out.old) call result (setting C.Chart R.CodeRule F.CellFamily self.new strip.new out.new) }
     {
-        self.made(call, strip, out).unwrap_or_else(Answer::from)
+        self.try_call(call, strip, out).unwrap_or_else(Answer::from)
     }
 }
 
+// Kept: each call takes the strip and the buffer apart, so that a struct of the two would be packed and unpacked here.
 /// Makes calls on a design, as many as there is room for answers, and stores the answer of each.
 fn run<C: Chart, R: CodeRule, F: CellFamily>(
     design: &mut Design<C, R, F>,
@@ -71,6 +72,7 @@ fn run<C: Chart, R: CodeRule, F: CellFamily>(
     ensures goes { Goes C.Chart R.CodeRule F.CellFamily (setting C.Chart R.CodeRule F.CellFamily design.old strip.old out.old) (tolds (length strip.old) (length out.old) calls.now answers.new) (setting C.Chart R.CodeRule F.CellFamily design.new strip.new out.new) }
     ensures rest { drop (length calls.now) answers.new ≡ drop (length calls.now) answers.old }
 {
+    // Kept: tried a zip of iter_mut; the proof did not close, as nothing is known of what it wrote.
     for (i, answer) in answers.iter_mut().enumerate() {
         let Some(call) = calls.get(i) else { break };
         *answer = design.call(*call, strip, out);

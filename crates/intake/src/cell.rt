@@ -14,6 +14,7 @@ pub const UNUSED: u8 = 0xFF;
 /// A cell: the signals at its pins, and its configuration. A family uses the front of both.
 #[derive(Clone, Copy)]
 pub struct Cell {
+    // Kept: how much of both is used is the family's to say, and pins() and config() give the whole arrays.
     pins: [u8; 5],
     config: [u8; 16],
 }

@@ -77,6 +77,7 @@ impl<F: CellFamily> Network<F> {
     pub fn pin(&self, inputs: u16) -> bool
         ensures { result ≡ network_pin (meant (F.CellFamily.size self.now.family) (F.CellFamily.pins self.now.family) (F.CellFamily.reads self.now.family)) (network_of (F.CellFamily.pins self.now.family) (F.CellFamily.size self.now.family) self.now.cells) (input_bits inputs) }
     {
+        // Kept: one function for this and a netlist's signals would take how a cell yields its bit, no plainer than this loop.
         let mut signals = Signals::of_inputs(inputs);
         for cell in self.cells.as_slice() {
             signals.push(cell.bit(&self.family, &signals)).unwrap();

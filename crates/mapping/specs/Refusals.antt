@@ -1,4 +1,4 @@
--- The refusals of the layers below as those of a design.
+-- The refusals of a chart as those of a design.
 use Rattle.charts.specs.declared.refusal.ChartRefusal.{ChartRefusal}
 use Rattle.charts.specs.declared.refusal.ChartRefusal.TheVariants as chart
 use Rattle.mapping.specs.declared.refusal.Refusal.{Refusal}

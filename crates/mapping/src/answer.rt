@@ -40,7 +40,7 @@ impl Answer {
         }
     }
 
-    // Kept: the frame of an answer has 0 for none, so that each caller would turn an Option back into it.
+    // Kept: who writes the frame of an answer needs the 0 for none, and would turn an Option back into it.
     /// The class count that the answer tells: 0 where it tells none.
     pub fn classes(&self) -> usize
         ensures { result ≡ answer_classes self.now }

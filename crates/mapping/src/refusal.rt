@@ -31,7 +31,7 @@ pub enum Refusal {
     TooShort,
 }
 
-/// Why a swap is refused that the chart refuses.
+/// The refusal of a swap, from the chart's.
 impl From<ChartRefusal> for Refusal {
     ghost from_gives = { λ c r. r ≡ of_swap c };
 
@@ -43,7 +43,7 @@ impl From<ChartRefusal> for Refusal {
     }
 }
 
-/// Why a write is refused that the buffer has no room for.
+/// The refusal of a write, from the buffer's.
 impl From<WriteRefusal> for Refusal {
     ghost from_gives = { λ _ r. r ≡ TooShort };
 
@@ -72,7 +72,7 @@ impl Refusal {
         }
     }
 
-    // Kept: the frame of an answer has 0 for none, so that each caller would turn an Option back into it.
+    // Kept: who writes the frame of an answer needs the 0 for none, and would turn an Option back into it.
     /// The class count that the refusal tells: 0 where it tells none.
     pub fn classes(&self) -> usize
         ensures { result ≡ refusal_classes self.now }

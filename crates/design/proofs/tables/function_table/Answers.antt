@@ -1,4 +1,4 @@
-use Rattle.std.proofs.Common.{◌≡◌, ℕ, ◌^◌, min, Bool, ap, ◌∙◌, rules}
+use Rattle.std.proofs.Common.{ℕ, ◌^◌, Bool, ap, ◌∙◌, rules}
 use native.Mathlib.Nat.{min-eq_left}
 use Rattle.functions.specs.Functions.{value}
 use Rattle.functions.specs.Words.{bits}

@@ -2,7 +2,7 @@ use Rattle.std.proofs.Common.{◌≡◌, length, take, refl, ◌∙◌, arith}
 use Rattle.std.proofs.lemmas.List.{length-take-le}
 use Rattle.mapping.specs.declared.answer.Answer.TheVariants.{Wrote}
 use Rattle.design.proofs.Lent.{write_lent}
-use Rattle.design.proofs.design.Design.made.Goals as goal
+use Rattle.design.proofs.design.Design.try_call.Goals as goal
 
 pub returns-in_ok-bytes-in-Write : goal.returns-in_ok-bytes-in-Write
 returns-in_ok-bytes-in-Write g c =
