@@ -20,6 +20,7 @@ pub fn walk<C: Chart>(chart: &C, b: usize, a: usize) -> C::Place
 }
 
 /// The value of a chart's function at the assignment number `a`.
+#[tactic(auto, using(functions::proofs::Values::value_bit))]
 pub fn value_at<C: Chart>(chart: &C, a: usize) -> bool
     ensures { result ≡ value (chart_function C.Chart chart.now) (bits (C.Chart.arity chart.now) a) }
 {
