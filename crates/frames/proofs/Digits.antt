@@ -32,17 +32,6 @@ byte_more xs pair rest fs all h l e n high low before =
     let t = pair_write xs pair rest e n in
     cc
 
-pub paired_no_low : (h : Option ℕ) (r : Option (List ℕ)) → paired h None r ≡ None
-paired_no_low None r = refl
-paired_no_low (Some h) r = refl
-
--- a digit that is none
-pub no_high : (xs pair rest fs : List ℕ) → xs ≡ pair ++ rest → length pair ≡ 2 → digit_value (get_or pair 0 0) ≡ None → onto fs (bytes_of xs) ≡ None
-no_high xs pair rest fs e n h = rw (pair_write xs pair rest e n, h)
-
-pub no_low : (xs pair rest fs : List ℕ) → xs ≡ pair ++ rest → length pair ≡ 2 → digit_value (get_or pair 1 0) ≡ None → onto fs (bytes_of xs) ≡ None
-no_low xs pair rest fs e n h = rw (pair_write xs pair rest e n, h, paired_no_low)
-
 -- two digits a byte
 paired-length : (h l : Option ℕ) (r : Option (List ℕ)) (n : ℕ) (bs : List ℕ) → ((cs : List ℕ) → r ≡ Some cs → n ≡ 2 * length cs) → paired h l r ≡ Some bs → n + 2 ≡ 2 * length bs
 paired-length None l r n bs f e = cc
