@@ -3,10 +3,12 @@
 ghost use Rattle.std.specs.Prelude.{◌≡◌, ◌+◌, ◌-◌, ◌<◌, ◌≤◌, ◌++◌, length, take, drop, Decides};
 ghost use Rattle.std.specs.List.{range_with_len};
 ghost use Rattle.mapping.specs.Answers.{Ranged};
+ghost use Rattle.design.specs.Cells.{cells_of, code_cells};
 ghost use Rattle.design.specs.Designs.{split_answer, SplitCall};
 
 use super::codes::{add_code_cells, class_numbers, code_classes};
 use super::design::Design;
+use super::netlist::Netlist;
 use bits::power;
 use charts::{Chart, Recoding, number_classes};
 use families::family::CellFamily;
@@ -18,8 +20,8 @@ use rules::rule::CodeRule;
 const MOST: usize = 47;
 
 /// The first `b` live signals.
-pub(crate) fn first_signals(live: &[u8; 16], b: usize) -> Row<u8, 5>
-    requires { b ≤ 5 }
+pub(crate) fn first_signals(live: &[u8], b: usize) -> Row<u8, 5>
+    requires { (b ≤ 5) × (b ≤ length live.now) }
     ensures { result.items ≡ take b live.now }
 {
     let mut pins = Row::new(0);
@@ -41,6 +43,30 @@ fn live_after(live: &[u8], b: usize, j: usize, first: u8) -> [u8; 16]
     }
     after[j..live.len() - b + j].copy_from_slice(&live[b..]);
     after
+}
+
+/// Adds the cells of a split of the first `b` live signals, which carry the codes of the classes with these numbers, and
+/// gives the live signals after it.
+fn put_codes<R: CodeRule>(
+    netlist: &mut Netlist,
+    rule: &R,
+    live: &[u8],
+    b: usize,
+    j: usize,
+    numbers: &Row<usize, 32>,
+) -> [u8; 16]
+    requires fewer { j < b }
+    requires bound { (b ≤ 5) × (b ≤ length live.now) }
+    requires few { length live.now ≤ 16 }
+    requires room { length (cells_of netlist.old) + j ≤ 47 }
+    ensures cells { cells_of netlist.new ≡ cells_of netlist.old ++ code_cells (R.CodeRule.code rule.now) j (take b live.now) numbers.now.items j }
+    ensures closed { netlist.new.closed ≡ netlist.old.closed }
+    ensures live { take (length live.now - b + j) result ≡ range_with_len (16 + length (cells_of netlist.old)) j ++ drop b live.now }
+{
+    let first = 16 + netlist.count() as u8;
+    let pins = first_signals(live, b);
+    add_code_cells(netlist, rule, pins, j, numbers.as_slice());
+    live_after(live, b, j, first)
 }
 
 /// What a split made: how many classes it told apart, and how many cells the design has now.
@@ -83,29 +109,23 @@ impl<C: Chart, R: CodeRule, F: CellFamily> Design<C, R, F> {
         if classes > power(j) {
             return Err(Refusal::TooManyClasses { classes });
         }
-        let made = self.netlist.count();
-        if made + j > MOST {
+        let cells = self.netlist.count() + j;
+        if cells > MOST {
             return Err(Refusal::TooManyCells { classes });
         }
         let places = &strip[..classes];
         let numbers = class_numbers(&self.chart, b, places);
-        let class_of = code_classes(&self.rule, j, classes);
-        let m = self.chart.count();
+        let live = &self.live[..self.chart.count()];
         let recoding = Recoding {
             bound: b,
             codes: j,
             places,
-            class_of: &class_of,
+            class_of: &code_classes(&self.rule, j, classes),
         };
         let Ok(()) = self.chart.recode(&recoding) else {
             return Err(Refusal::SplitDoesNotFit { classes });
         };
-        let pins = first_signals(&self.live, b);
-        add_code_cells(&mut self.netlist, &self.rule, pins, j, numbers.as_slice());
-        self.live = live_after(&self.live[..m], b, j, 16 + made as u8);
-        Ok(SplitCounts {
-            classes,
-            cells: made + j,
-        })
+        self.live = put_codes(&mut self.netlist, &self.rule, live, b, j, &numbers);
+        Ok(SplitCounts { classes, cells })
     }
 }
