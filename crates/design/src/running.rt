@@ -27,6 +27,7 @@ impl<C: Chart, R: CodeRule, F: CellFamily> Design<C, R, F> {
     ) -> Result<Answer, Refusal>
         ensures { Does C.Chart R.CodeRule F.CellFamily (setting C.Chart R.CodeRule F.CellFamily self.old strip.old out.old) call (answer_of result) (setting C.Chart R.CodeRule F.CellFamily self.new strip.new out.new) }
     {
+        // Kept: a list of calls is data, so that which of them is made is a value; closures would need a list of their own.
         match call {
             Call::Swap { place } => {
                 self.swap(place)?;

@@ -45,6 +45,7 @@ fn live_after(live: &[u8], b: usize, j: usize, first: u8) -> [u8; 16]
     after
 }
 
+// Kept: the bound signals and their facts come from one caller and go to two callees, so that a struct of them is no plainer.
 /// Adds the cells of a split of the first `b` live signals, which carry the codes of the classes with these numbers, and
 /// gives the live signals after it.
 fn put_codes<R: CodeRule>(
