@@ -35,6 +35,7 @@ impl From<WriteRefusal> for TableRefusal {
 }
 
 impl TableRefusal {
+    // Kept: a variant with a field has no number that a cast gives, so that the match is the plainest.
     /// The refusal's number: 11 for no table, 22 for a short buffer.
     pub fn number(&self) -> u8
         ensures { result ≡ table_refusal_number self.now }
@@ -46,6 +47,7 @@ impl TableRefusal {
     }
 }
 
+// Kept: `tabulate` is of the families of cells, on which no page rests.
 /// The byte of at most eight entries, the first its lowest bit.
 fn byte_of(eight: &[bool]) -> u8
     requires { length eight.now ≤ 8 }
@@ -72,6 +74,7 @@ fn pack(table: &[bool]) -> Row<u8, 512>
     bytes
 }
 
+// Kept: a cell's frame in a design has its fields in two parts, which one function would have to join first.
 /// The frame of a kind with these fields.
 fn frame_of(kind: Kind, fields: &[u8]) -> Frame
     requires { length fields.now ≤ 22 }

@@ -6,7 +6,7 @@ mod tests {
     use charts::{BitChart, Chart, Inverting, Recoding, Stretch, number_classes, value_at, walk};
     use std::test::Fail;
 
-    // Kept: a crate that only tests name is not found, so the tests of both kinds of charts have one of their own.
+    // Kept: shared by the tests of both kinds of charts, it would be a public function with a contract of its own.
     fn recoded(
         chart: &mut BitChart,
         bound: usize,

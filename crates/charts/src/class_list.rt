@@ -18,7 +18,7 @@ pub fn find<C: Chart>(
 }
 
 /// A list of places, one for each class, in a strip that was lent: the first `count` of it are the list.
-// Kept: no heap below the programs, so the list is a lent strip with its length beside.
+// Kept: no heap here, so the list is a lent strip with its length beside.
 #[derive(Drop)]
 pub struct ClassList<'a, P> {
     places: &'a mut [P],

@@ -52,6 +52,7 @@ fn config_bytes<F: CellFamily>(family: &F, cell: &Cell) -> [u8; 16]
     bytes
 }
 
+// Kept: the frames of bit pages have their fields in one part, so that one function would have to join these first.
 /// The frame of a cell with these pins and this configuration.
 fn sealed_cell(pins: &[u8], config: &[u8]) -> Frame
     requires pins { length pins.now ≤ 5 }

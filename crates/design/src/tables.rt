@@ -10,6 +10,7 @@ use bits::power;
 use charts::{Chart, value_at};
 use families::tables::tabulate;
 
+// Kept: `power` gives no bound, and what calls this needs that there are at most 32.
 /// How many assignments at most 5 signals have.
 pub(crate) fn assignments(signals: usize) -> usize
     requires { signals ≤ 5 }

@@ -26,7 +26,6 @@ pub trait CellFamily {
     /// What these owe one another.
     ghost laws: { Laws number pins size packed reads };
 
-    // Kept: methods and not constants, since the ghost numbers are a value's, and a constant beside each would be no plainer.
     /// The family's number.
     fn number(&self) -> u8
         ensures { result ≡ number self.now };

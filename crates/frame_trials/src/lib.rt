@@ -22,6 +22,7 @@ mod tests {
         }
     }
 
+    // Kept: as an Option each expected value would be wrapped in `Some`, which is no plainer.
     // The first line's fault in numbers; all 0 for a good frame or the end.
     fn first(text: &[u8]) -> FaultNumbers {
         let mut reader = FrameReader::new(text);

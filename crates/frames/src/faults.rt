@@ -49,6 +49,7 @@ pub enum RecordFault {
     Frame(FrameFault),
     /// A field of a heading or of a job frame is out of range, or the root is wrong.
     OutOfRange { line: usize },
+    // Kept: the node is a field of the product's fault answers, where 0 stands for none.
     /// A node's place or child is bad, or a spare bit of a table is set (then the node is 0).
     BadPlace { line: usize, node: usize },
     /// A node has equal children, or repeats an earlier one.
@@ -89,6 +90,7 @@ impl From<RecordFault> for PageFault {
 }
 
 impl FrameFault {
+    // Kept: `From` would say the same in as many lines, under a name that tells less.
     /// The fault in numbers: layer 1, causes 1 to 3.
     pub fn numbers(&self) -> FaultNumbers
         ensures { result ≡ frame_numbers self.now }
@@ -108,6 +110,7 @@ impl FrameFault {
 }
 
 impl RecordFault {
+    // Kept: `From` would say the same in as many lines, under a name that tells less.
     /// The fault in numbers: layer 2, causes 4, 5, 6 and 9, or those of the line below it.
     pub fn numbers(&self) -> FaultNumbers
         ensures { result ≡ record_numbers self.now }
@@ -129,6 +132,7 @@ impl RecordFault {
 }
 
 impl PageFault {
+    // Kept: `From` would say the same in as many lines, under a name that tells less.
     /// The fault in numbers: layer 3, causes 7 and 8, or those of the record below it.
     pub fn numbers(&self) -> FaultNumbers
         ensures { result ≡ page_numbers self.now }

@@ -7,6 +7,7 @@ ghost use Rattle.frames.specs.Text.{hex_digit, digit_value, byte_digits, bytes_o
 
 use rows::Row;
 
+// Kept: `to_digit` takes a to f too, so that a test for these would stand beside it.
 /// The number that a digit, 0 to 9 or A to F, writes; none for any other character.
 pub fn digit_value(c: u8) -> Option<u8>
     ensures value { result ≡ digit_value c }
@@ -19,6 +20,7 @@ pub fn digit_value(c: u8) -> Option<u8>
     }
 }
 
+// Kept: a format would need a text to write to, and there is no heap here.
 /// The digit that writes a number below 16.
 fn hex_digit(d: u8) -> u8
     requires { d < 16 }

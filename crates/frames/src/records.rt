@@ -19,6 +19,7 @@ pub fn read_any(reader: &mut FrameReader) -> Result<Option<Frame>, RecordFault>
     Ok(reader.next()?)
 }
 
+// Kept: `Moved` tells of the reader before and after a call, which no fact of its type can.
 /// The next frame, where only one of this kind and byte count is due; none at the end of the text.
 pub fn read_due(
     reader: &mut FrameReader,

@@ -30,6 +30,7 @@ impl From<Refusal> for Answer {
 }
 
 impl Answer {
+    // Kept: the frame of an answer has 0 for what was done.
     /// 0 for a call that was done, and else the refusal's number.
     pub fn number(&self) -> u8
         ensures { result ≡ answer_number self.now }

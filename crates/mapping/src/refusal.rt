@@ -55,6 +55,7 @@ impl From<WriteRefusal> for Refusal {
 }
 
 impl Refusal {
+    // Kept: a variant with a field has no number that a cast gives, so that the match is the plainest.
     /// The refusal's number.
     pub fn number(&self) -> u8
         ensures { result ≡ refusal_number self.now }

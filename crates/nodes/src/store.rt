@@ -16,6 +16,7 @@ pub(crate) struct Store {
     ghost indexed: { Indexed nodes.items heads nexts (length nodes.items) },
 }
 
+// Kept: beside the row's `Full`, since a conversion into the charts' refusal has to be of a type of this crate.
 /// There is no room for one node more.
 #[derive(Clone, Copy)]
 pub(crate) struct Full;

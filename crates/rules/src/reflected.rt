@@ -19,6 +19,7 @@ impl CodeRule for Reflected {
 
     #[tactic(auto, using(crate::specs::Limits::room_few))]
     fn code(&self, j: usize, class: usize) -> usize {
+        // Kept: the rules share the test by `room_for`; one function of it and of a closure for the code needs two clauses more.
         if class < room_for(j) { CODES[class] } else { 0 }
     }
 }

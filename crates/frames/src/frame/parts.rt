@@ -80,6 +80,7 @@ pub(crate) fn frame_of(digits: &[u8], line: usize) -> Result<Frame, FrameFault>
 }
 
 impl Form {
+    // Kept: with a derived comparison a form would be made here to be compared, which is no plainer.
     /// Whether frames of this kind and byte count have this form.
     pub fn admits(&self, kind: u8, len: usize) -> bool
         ensures { result ≡ admits_form self.now kind len }
