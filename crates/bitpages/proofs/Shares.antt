@@ -30,9 +30,6 @@ module _ {n at : ℕ} {ds xs : List ℕ} {line : ℕ} {all : Page Packed} (l : L
     | suc m ↦ λ e _. absurd (omega (arith, suc-mul m (share n), share-low n))
   ] l.rest l.same
 
-  pub left-within : at ≤ size n
-  left-within = omega (arith, l.rest)
-
   -- one frame more
   module _ (h : at < size n) where
     pub left-more : (m : ℕ) × (at + share n + m * share n ≡ size n) × (onward line (bits n xs line) (then_shares n m ds xs line) ≡ all)
@@ -40,9 +37,6 @@ module _ {n at : ℕ} {ds xs : List ℕ} {line : ℕ} {all : Page Packed} (l : L
       | zero ↦ λ e _. absurd (omega (arith, zero-mul (share n)))
       | suc m ↦ λ e s. (m, omega (arith, suc-mul m (share n)), s)
     ] l.rest l.same
-
-    pub left-room : at + share n ≤ size n
-    left-room = let m = left-more in omega arith
 
     pub left-got : (m : ℕ) (es ys : List ℕ) (next : ℕ) → at + share n + m * share n ≡ size n → then_shares n m ds xs line es ≡ all → ys ≡ past xs → next ≡ line_after xs line → Left n (at + share n) (ds ++ es) ys next all
     left-got m es ys next r e p q = record { many = m; rest = r; same = rw (p, q) e }
