@@ -14,7 +14,7 @@ use Rattle.bitpages.proofs.Entries.{entry_at_clear, length-entries, get_or-entri
 use Rattle.bitpages.proofs.Pages.{page_laws, page-told}
 
 -- a table whose entries are those of the bytes of a page holds it
-holds : (n : ℕ) (xs ds rest : List ℕ) (line after : ℕ) (table : List Bool) → paged xs line ≡ page (packed n ds) rest after → length table ≡ 4096 → ((i : ℕ) → i < 4096 → get_or table i false ≡ entry_at ds i) → Holds n ds table
+pub holds : (n : ℕ) (xs ds rest : List ℕ) (line after : ℕ) (table : List Bool) → paged xs line ≡ page (packed n ds) rest after → length table ≡ 4096 → ((i : ℕ) → i < 4096 → get_or table i false ≡ entry_at ds i) → Holds n ds table
 holds n xs ds rest line after table e long each =
     let t = (page-told n xs ds rest line after e).table in
     let high : n ≤ 12 = t.high in

@@ -3,6 +3,7 @@
 ghost use Rattle.std.specs.Prelude.{◌≡◌, ℕ, ◌^◌, ◌<◌, false, [], take, IfOk, slice_index_or};
 ghost use Rattle.frames.specs.Pages.{ReadsPage};
 ghost use Rattle.frames.specs.Reading.{left};
+ghost use Rattle.rows.specs.Rows.{items};
 ghost use Rattle.bitpages.specs.Calls.{Filled};
 ghost use Rattle.bitpages.specs.Page.{packed, shares, paged, alone};
 ghost use Rattle.bitpages.specs.Table.{count, entry_at};
@@ -24,7 +25,7 @@ struct Page {
 
 /// Reads the frames of a page, and gives the bytes that they carry.
 fn read_bytes(reader: &mut FrameReader, arity: Arity) -> Result<Row<u8, 512>, PageFault>
-    ensures { ReadsPage (λ d bytes. d ≡ packed arity.n bytes.items) (shares arity.n (count arity.n) [] (left reader.old) reader.old.line) (left reader.new) reader.new.line result }
+    ensures { ReadsPage (λ d bytes. d ≡ packed arity.n (items bytes)) (shares arity.n (count arity.n) [] (left reader.old) reader.old.line) (left reader.new) reader.new.line result }
 {
     let share = arity.share();
     let mut bytes = Row::new(0);
@@ -40,7 +41,7 @@ fn read_bytes(reader: &mut FrameReader, arity: Arity) -> Result<Row<u8, 512>, Pa
 
 /// Reads a page.
 fn read_page(reader: &mut FrameReader) -> Result<Page, PageFault>
-    ensures { ReadsPage (λ d page. d ≡ packed page.arity.n page.bytes.items) (paged (left reader.old) reader.old.line) (left reader.new) reader.new.line result }
+    ensures { ReadsPage (λ d page. d ≡ packed page.arity.n (items page.bytes)) (paged (left reader.old) reader.old.line) (left reader.new) reader.new.line result }
 {
     let line = reader.line();
     let n = read_heading(reader)?.ok_or(PageFault::Missing { line })?;

@@ -4,6 +4,7 @@ ghost use Rattle.std.specs.Prelude.{◌≡◌, ℕ, ◌+◌, ◌*◌, ◌≤◌,
 ghost use Rattle.frames.specs.Kinds.{kind_byte};
 ghost use Rattle.frames.specs.Outcome.{body};
 ghost use Rattle.frames.specs.Text.{sealed};
+ghost use Rattle.rows.specs.Rows.{items};
 ghost use Rattle.bitpages.specs.Calls.{table_refusal_number, Put};
 ghost use Rattle.bitpages.specs.Table.{size, share, count, parts, byte_of};
 ghost use Rattle.bitpages.specs.Written.{bits_frame};
@@ -65,7 +66,7 @@ fn byte_of(eight: &[bool]) -> u8
 /// The entries of a table packed into bytes, eight a byte.
 fn pack(table: &[bool]) -> Row<u8, 512>
     requires { length table.now ≤ 4096 }
-    ensures { (many : ℕ) → length table.now ≤ 8 * many → 8 * many ≤ length table.now + 7 → result.items ≡ map byte_of (parts 8 many table.now) }
+    ensures { (many : ℕ) → length table.now ≤ 8 * many → 8 * many ≤ length table.now + 7 → items result ≡ map byte_of (parts 8 many table.now) }
 {
     let mut bytes = Row::new(0);
     for eight in table.chunks(8) {
@@ -89,8 +90,8 @@ fn frame_of(kind: Kind, fields: &[u8]) -> Frame
 /// Puts the frames that carry the bytes of a table behind others.
 fn put_shares(arity: Arity, bytes: &[u8], frames: &mut Row<Frame, 33>)
     requires bytes { length bytes.now ≡ size arity.n }
-    requires room { length frames.old.items ≤ 1 }
-    ensures { map body frames.new.items ≡ map body frames.old.items ++ map bits_frame (parts (share arity.n) (count arity.n) bytes.now) }
+    requires room { length (items frames.old) ≤ 1 }
+    ensures { map body (items frames.new) ≡ map body (items frames.old) ++ map bits_frame (parts (share arity.n) (count arity.n) bytes.now) }
 {
     for part in bytes.chunks_exact(arity.share()) {
         frames.push(frame_of(Kind::Bits, part)).unwrap();

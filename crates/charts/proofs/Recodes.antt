@@ -44,15 +44,17 @@ module _ (m b j : ℕ) (table : List Bool) (places : List Stretch) (class_of : L
   pub recoded_too_wide : (n : ℕ) → n < m - b + j → AtMost n new → ⊥
   recoded_too_wide n l w = omega (arith, one_arity w.count (m - b + j) new w.arity recoded-arity, w.within)
 
--- the code of the entry x and its class are there
+-- the code of the entry x
+pub code_below : (k j x : ℕ) → x < 2 ^ (k + j) → x / 2 ^ k < 2 ^ j
+code_below k j x h = let flip : k + j ≡ j + k = omega arith in shr_below x j k (subst (λ n. x < 2 ^ n) flip h)
+
+-- it and its class are there
 module _ {m b j n : ℕ} {class_of : List ℕ} (ok : Recodable m b j n class_of) (x size : ℕ) (is : size ≡ 2 ^ (m - b)) (inside : x < 2 ^ (m - b + j)) where
-  code_below : x / size < 2 ^ j
-  code_below =
-      let flip : m - b + j ≡ j + (m - b) = omega arith in
-      rw is (shr_below x j (m - b) (subst (λ n. x < 2 ^ n) flip inside))
+  below : x / size < 2 ^ j
+  below = rw is (code_below (m - b) j x inside)
 
   pub code_there : x / size < length class_of
-  code_there = omega (arith, code_below, ok.coded)
+  code_there = omega (arith, below, ok.coded)
 
   pub class_there : get_or class_of (x / size) 0 < n
-  class_there = ok.placed (x / size) code_below
+  class_there = ok.placed (x / size) below

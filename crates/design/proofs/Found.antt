@@ -11,11 +11,11 @@ use Rattle.functions.proofs.Classes.{among-at, among-classes}
 
 module _ {P : Type 0} (mean : P → Fn) (b e : ℕ) (f : Fn) (p : P) (ps : List P) (is : mean p ≡ under f (bits b e)) (all : map mean ps ≡ classes (columns b f)) where
   -- its number is the place of its column
-  class_found : place_of (mean p) (map mean ps) ≡ class_of b f (bits b e)
+  pub class_found : place_of (mean p) (map mean ps) ≡ class_of b f (bits b e)
   class_found = ap (λ g. place_of g (map mean ps)) is ∙ ap (place_of (under f (bits b e))) all
 
   -- which is one of the classes
-  class_there : e < 2 ^ b → among (mean p) (map mean ps) ≡ false → ⊥
+  pub class_there : e < 2 ^ b → among (mean p) (map mean ps) ≡ false → ⊥
   class_there h lacks =
       let at = column_at b e f f h in
       let here = ap (λ g. among g (columns b f)) (sym at) ∙ among-at (columns b f) e f (omega (arith, length_columns b f)) in

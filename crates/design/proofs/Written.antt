@@ -21,6 +21,7 @@ use Rattle.mapping.specs.Calls.{is_done}
 use Rattle.mapping.specs.Answers.{Ordered, checks, page_bytes}
 use Rattle.mapping.specs.Kept.{configured}
 use Rattle.mapping.proofs.Pages.{network_length}
+use Rattle.rows.specs.Rows.{items}
 use Rattle.design.specs.declared.cell.Cell.{Cell}
 use Rattle.design.specs.declared.design.Design.{Design}
 use Rattle.design.specs.Cells.{seen_cell}
@@ -66,9 +67,9 @@ module _ {C P R F : Type 0} (ch : chart.Ghosts C P) (ru : rule.Ghosts R) (fa : f
   page-sized = sym (network_length fa.laws d.family d.inputs (seen ch ru fa d))
 
   -- the frames of the heading and of every cell are the page's
-  pub page_written : (fs : List Frame) → map body fs ≡ (heading_frame (fa.number d.family) (network_seen ch ru fa d) ∷ []) ++ map (λ x. cell_frame (configured (fa.pins d.family) (fa.packed d.family) (seen_cell x))) d.netlist.cells.items → text (map body fs) ≡ page_of ch ru fa d
+  pub page_written : (fs : List Frame) → map body fs ≡ (heading_frame (fa.number d.family) (network_seen ch ru fa d) ∷ []) ++ map (λ x. cell_frame (configured (fa.pins d.family) (fa.packed d.family) (seen_cell x))) (items d.netlist.cells) → text (map body fs) ≡ page_of ch ru fa d
   page_written fs is =
-      ap text (is ∙ ap (λ gs. heading_frame (fa.number d.family) (network_seen ch ru fa d) ∷ gs) (cell_frames seen_cell (configured (fa.pins d.family) (fa.packed d.family)) d.netlist.cells.items))
+      ap text (is ∙ ap (λ gs. heading_frame (fa.number d.family) (network_seen ch ru fa d) ∷ gs) (cell_frames seen_cell (configured (fa.pins d.family) (fa.packed d.family)) (items d.netlist.cells)))
 
   -- a call that leaves the design
   same-design : (a : Answer) → Ordered (checks (ru.code d.rule) (fa.pins d.family) (fa.size d.family) (ch.fits d.chart.below) (seen ch ru fa d) (Write (length before))) (Wrote (page_bytes (fa.pins d.family) (fa.size d.family) (length (seen ch ru fa d).cells))) a → Step ch ru fa d (Write (length before)) a d

@@ -6,6 +6,7 @@ ghost use Rattle.functions.specs.Classes.{columns, classes as classes_of, class_
 ghost use Rattle.functions.specs.Words.{bits};
 ghost use Rattle.charts.specs.Walks.{chart_function};
 ghost use Rattle.rules.specs.Codes.{holder};
+ghost use Rattle.rows.specs.Rows.{items};
 ghost use Rattle.design.specs.Cells.{cells_of, number_table, code_cells};
 
 use super::cell::Cell;
@@ -32,7 +33,7 @@ fn class_at<C: Chart>(chart: &C, b: usize, places: &[C::Place], e: usize) -> usi
 pub(crate) fn class_numbers<C: Chart>(chart: &C, b: usize, places: &[C::Place]) -> Row<usize, 32>
     requires few { b ≤ 5 }
     requires places { map (C.Chart.column chart.now b) places.now ≡ classes_of (columns b (chart_function C.Chart chart.now)) }
-    ensures { result.items ≡ map (λ e. class_of b (chart_function C.Chart chart.now) (bits b e)) (range_with_len 0 (2 ^ b)) }
+    ensures { items result ≡ map (λ e. class_of b (chart_function C.Chart chart.now) (bits b e)) (range_with_len 0 (2 ^ b)) }
 {
     let mut numbers = Row::new(0);
     for e in 0..assignments(b) {
@@ -86,7 +87,7 @@ pub(crate) fn add_code_cells<R: CodeRule>(
 )
     requires room { length (cells_of netlist.old) + j ≤ 47 }
     requires short { length numbers.now ≤ 32 }
-    ensures cells { cells_of netlist.new ≡ cells_of netlist.old ++ code_cells (R.CodeRule.code rule.now) j pins.items numbers.now j }
+    ensures cells { cells_of netlist.new ≡ cells_of netlist.old ++ code_cells (R.CodeRule.code rule.now) j (items pins) numbers.now j }
     ensures closed { netlist.new.closed ≡ netlist.old.closed }
 {
     for t in 0..j {

@@ -3,6 +3,7 @@
 ghost use Rattle.std.specs.Prelude.{◌≡◌, ◌+◌, ◌<◌, ◌≤◌, false, true, [], ◌∷◌, ◌++◌, length, if◌then◌else◌};
 ghost use Rattle.intake.specs.Networks.{input_bits, yielded, last};
 ghost use Rattle.mapping.specs.States.{yield, signals};
+ghost use Rattle.rows.specs.Rows.{items};
 
 use super::cell::Cell;
 use intake::signals::Signals;
@@ -14,7 +15,7 @@ pub(crate) struct Netlist {
     pub(crate) cells: Row<Cell, 48>,
     // Kept: a call on a closed design is refused when it is made, so that the state is a value and no type.
     pub(crate) closed: bool,
-    ghost room: { length cells.items + (if closed then 0 else 1) ≤ 48 },
+    ghost room: { length (items cells) + (if closed then 0 else 1) ≤ 48 },
 }
 
 impl Netlist {

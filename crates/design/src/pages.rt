@@ -6,6 +6,7 @@ ghost use Rattle.frames.specs.Outcome.{body};
 ghost use Rattle.families.specs.Widening.{widened_table};
 ghost use Rattle.intake.specs.Written.{heading_frame, cell_frame};
 ghost use Rattle.mapping.specs.Kept.{configured};
+ghost use Rattle.rows.specs.Rows.{items};
 ghost use Rattle.design.specs.Cells.{seen_cell};
 ghost use Rattle.design.specs.Designs.{write_answer, WriteCall, network_seen};
 
@@ -36,7 +37,7 @@ fn pin_bytes(cell: &Cell) -> [u8; 5]
 
 /// The table of a cell as one on all pins of its family.
 fn full_table<F: CellFamily>(family: &F, cell: &Cell) -> u32
-    ensures { result ≡ widened_table (F.CellFamily.pins family.now) (length cell.now.pins.items) cell.now.table }
+    ensures { result ≡ widened_table (F.CellFamily.pins family.now) (length (items cell.now.pins)) cell.now.table }
 {
     widened(family.pins(), cell.pins.as_slice().len(), cell.table)
 }

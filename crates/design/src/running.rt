@@ -80,16 +80,11 @@ fn run<C: Chart, R: CodeRule, F: CellFamily>(
     }
 }
 
-/// Opens a design with a chart and makes calls on it, as many as there is room for answers. A call is lent as much of the
-/// strip or of the buffer as it names, or all of it if that is less.
-///
-/// Whatever the chart, the rule, the family and the calls: each call does what its own contract says, from what those
-/// before it left (`run`); each answer is the one that the opened function, the rule and the calls so far demand
-/// (`judged`); and the design that is left keeps its promises (`kept`): its pin is the opened function, what it writes is
-/// taken back as a network with that function at its pin, and a split is refused for its classes exactly where the
-/// reference function has no decomposition.
+// Kept: its proof of `kept` is written out, so that an edit of it would be refused in that proof first; `perform`, which calls it,
+// proves with no file.
+/// Opens a design with a chart and makes calls on it, as many as there is room for answers.
 #[tactic(auto, using(crate::proofs::Performed::ran, crate::proofs::Performed::judged_run, crate::proofs::Performed::reached_run))]
-pub fn perform<C: Chart, R: CodeRule, F: CellFamily>(
+fn performed<C: Chart, R: CodeRule, F: CellFamily>(
     chart: C,
     rule: R,
     family: F,
@@ -107,4 +102,30 @@ pub fn perform<C: Chart, R: CodeRule, F: CellFamily>(
     let mut design = Design::open(chart, rule, family);
     run(&mut design, calls, answers, strip, out);
     design
+}
+
+/// Opens a design with a chart and makes calls on it, as many as there is room for answers. A call is lent as much of the
+/// strip or of the buffer as it names, or all of it if that is less.
+///
+/// Whatever the chart, the rule, the family and the calls: each call does what its own contract says, from what those
+/// before it left (`run`); each answer is the one that the opened function, the rule and the calls so far demand
+/// (`judged`); and the design that is left keeps its promises (`kept`): its pin is the opened function, what it writes is
+/// taken back as a network with that function at its pin, and a split is refused for its classes exactly where the
+/// reference function has no decomposition.
+pub fn perform<C: Chart, R: CodeRule, F: CellFamily>(
+    chart: C,
+    rule: R,
+    family: F,
+    calls: &[Call],
+    answers: &mut [Answer],
+    strip: &mut [C::Place],
+    out: &mut [u8],
+) -> Design<C, R, F>
+    ensures run { Ran C.Chart R.CodeRule F.CellFamily chart rule family strip.old out.old (tolds (length strip.old) (length out.old) calls.now answers.new) (setting C.Chart R.CodeRule F.CellFamily result strip.new out.new) }
+    ensures judged { Judged (R.CodeRule.code rule) (F.CellFamily.pins family) (F.CellFamily.size family) (C.Chart.fits chart) (C.Chart.arity chart) (chart_function C.Chart chart) [] (tolds (length strip.old) (length out.old) calls.now answers.new) }
+    ensures kept { Promise C.Chart R.CodeRule F.CellFamily (C.Chart.arity chart) (chart_function C.Chart chart) (events (tolds (length strip.old) (length out.old) calls.now answers.new)) result }
+    ensures reached { Reaches (R.CodeRule.code rule) (F.CellFamily.pins family) (F.CellFamily.size family) (C.Chart.fits chart) (C.Chart.arity chart) (chart_function C.Chart chart) (tolds (length strip.old) (length out.old) calls.now answers.new) (seen C.Chart R.CodeRule F.CellFamily result) }
+    ensures rest { drop (length calls.now) answers.new ≡ drop (length calls.now) answers.old }
+{
+    performed(chart, rule, family, calls, answers, strip, out)
 }

@@ -3,6 +3,7 @@
 ghost use Rattle.std.specs.Prelude.{◌≡◌, ◌+◌, ◌-◌, ◌<◌, ◌≤◌, ◌++◌, length, take, drop, Decides};
 ghost use Rattle.std.specs.List.{range_with_len};
 ghost use Rattle.mapping.specs.Answers.{Ranged};
+ghost use Rattle.rows.specs.Rows.{items};
 ghost use Rattle.design.specs.Cells.{cells_of, code_cells};
 ghost use Rattle.design.specs.Designs.{split_answer, SplitCall};
 
@@ -22,7 +23,7 @@ const MOST: usize = 47;
 /// The first `b` live signals.
 pub(crate) fn first_signals(live: &[u8], b: usize) -> Row<u8, 5>
     requires { (b ≤ 5) × (b ≤ length live.now) }
-    ensures { result.items ≡ take b live.now }
+    ensures { items result ≡ take b live.now }
 {
     let mut pins = Row::new(0);
     pins.extend_from_slice(&live[..b]).unwrap();
@@ -60,7 +61,7 @@ fn put_codes<R: CodeRule>(
     requires bound { (b ≤ 5) × (b ≤ length live.now) }
     requires few { length live.now ≤ 16 }
     requires room { length (cells_of netlist.old) + j ≤ 47 }
-    ensures cells { cells_of netlist.new ≡ cells_of netlist.old ++ code_cells (R.CodeRule.code rule.now) j (take b live.now) numbers.now.items j }
+    ensures cells { cells_of netlist.new ≡ cells_of netlist.old ++ code_cells (R.CodeRule.code rule.now) j (take b live.now) (items numbers.now) j }
     ensures closed { netlist.new.closed ≡ netlist.old.closed }
     ensures live { take (length live.now - b + j) result ≡ range_with_len (16 + length (cells_of netlist.old)) j ++ drop b live.now }
 {

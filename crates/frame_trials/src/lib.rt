@@ -90,14 +90,13 @@ mod tests {
         let Some(frame) = Frame::sealed(b"\x22\x02\x01") else {
             return Err(Fail::new("three bytes are a frame's content"));
         };
-        let frames = [frame];
         let mut out = [b'.'; 12];
         assert_eq!(rt;
-            write_frames(&frames, &mut out[0..8]),
+            write_frames(&[frame], &mut out[0..8]),
             Err(WriteRefusal::TooShort)
         );
         assert!(rt; out == *b"............", "a refusal writes nothing");
-        assert_eq!(rt; write_frames(&frames, &mut out), Ok(9));
+        assert_eq!(rt; write_frames(&[frame], &mut out), Ok(9));
         assert!(rt; out == *b"220201DB\n...", "only the line's bytes change");
         assert_eq!(rt; write_frames(&[], &mut out), Ok(0));
         Ok(())

@@ -5,7 +5,7 @@ use Rattle.frames.specs.declared.faults.FrameFault.{FrameFault}
 use Rattle.frames.specs.declared.frame.Frame.{Frame}
 use Rattle.frames.specs.Outcome.{Outcome, frame, end, fault, body, outcome, awaited}
 
-due-long : (k n line : ℕ) (f : List ℕ) (o : Outcome) → frame f ≡ awaited (record { kind = k; len = n } ∷ []) line o → length f ≡ n
+pub due-long : (k n line : ℕ) (f : List ℕ) (o : Outcome) → frame f ≡ awaited (record { kind = k; len = n } ∷ []) line o → length f ≡ n
 due-long k n line f (frame bs) e = grind (arith, nat_tests)
 due-long k n line f end e = absurd cc
 due-long k n line f (fault w v) e = absurd cc

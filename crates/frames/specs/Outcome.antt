@@ -1,6 +1,7 @@
 -- What stands at a place of a text: a frame, the end, or a fault.
 use Rattle.std.specs.Prelude.{ℕ, ◌+◌, ◌-◌, ◌/◌, ◌%◌, Bool, cond, ◌&&◌, List, [], ◌∷◌, length, take, drop, Some, None, Ok, Err, sum, Option, Result, ◌==◌, nat_lt, slice_index}
 use Rattle.std.specs.List.{list_any}
+use Rattle.rows.specs.Rows.{items}
 use Rattle.frames.specs.declared.frame.Frame.{Frame}
 use Rattle.frames.specs.declared.frame.Form.{Form}
 use Rattle.frames.specs.declared.faults.FaultNumbers.{FaultNumbers}
@@ -13,7 +14,7 @@ use Rattle.frames.specs.Text.{bytes_of, bounded, width, digit_run, sealing}
 
 -- the bytes of a frame
 abbrev pub body : Frame → List ℕ
-body f = f.bytes.items
+body f = items f.bytes
 
 -- the bytes of a good frame, the end of the text, or what is wrong with the line: its layer, cause, line and node, and the fault
 pub data Outcome : Type 0 where

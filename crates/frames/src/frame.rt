@@ -1,5 +1,6 @@
 //! A frame, and the frames that are due.
 
+ghost use Rattle.rows.specs.Rows.{items};
 ghost use Rattle.frames.specs.Text.{Good, Bytes};
 
 use rows::Row;
@@ -8,8 +9,8 @@ use rows::Row;
 #[derive(Clone, Copy)]
 pub struct Frame {
     bytes: Row<u8, 24>,
-    ghost good: { Good bytes.items },
-    ghost fits: { Bytes bytes.items },
+    ghost good: { Good (items bytes) },
+    ghost fits: { Bytes (items bytes) },
 }
 
 /// What a frame that is due looks like: its kind, and how many bytes it has.

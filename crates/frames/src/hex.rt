@@ -3,6 +3,7 @@
 ghost use Rattle.std.specs.Prelude.{◌≡◌, ◌+◌, ◌%◌, ◌<◌, ◌≤◌, true, false, length, IfSome, sum};
 ghost use Rattle.std.specs.List.{fold};
 ghost use Rattle.std.specs.Option.{option_map};
+ghost use Rattle.rows.specs.Rows.{items};
 ghost use Rattle.frames.specs.Text.{hex_digit, digit_value, byte_digits, bytes_of, bounded, digit_run, sealing};
 
 use rows::Row;
@@ -78,8 +79,8 @@ fn writes_frame(count: usize) -> bool
 
 /// The 2 to 24 bytes that digits write; none for any other count or character.
 pub(crate) fn bytes_of(digits: &[u8]) -> Option<Row<u8, 24>>
-    ensures value { option_map (λ r. r.items) result ≡ bounded (bytes_of digits.now) }
-    ensures sized { IfSome result (λ r. (2 ≤ length r.items) × (length r.items ≤ 24)) }
+    ensures value { option_map (λ r. items r) result ≡ bounded (bytes_of digits.now) }
+    ensures sized { IfSome result (λ r. (2 ≤ length (items r)) × (length (items r) ≤ 24)) }
 {
     if !writes_frame(digits.len()) {
         return None;

@@ -2,6 +2,7 @@
 use Rattle.std.specs.Prelude.{◌≡◌, ℕ, List, [], map, length, take, Result}
 use Rattle.frames.specs.declared.faults.PageFault.{PageFault}
 use Rattle.frames.specs.Pages.{Page, Fills}
+use Rattle.rows.specs.Rows.{items}
 use Rattle.intake.specs.declared.cell.Cell.{Cell}
 use Rattle.intake.specs.declared.cells.Cells.{Cells}
 use Rattle.intake.specs.declared.records.Heading.{Heading}
@@ -14,7 +15,7 @@ Holds ps cs c = (take (length ps) c.pins ≡ ps) × (take (length cs) c.config �
 
 -- the cells that are listed
 abbrev pub listed : Cells → List Cell
-listed cs = cs.cells.items
+listed cs = items cs.cells
 
 -- the cell of a family with K pins and so many configuration bytes
 abbrev pub cell_of : ℕ → ℕ → Cell → NetCell

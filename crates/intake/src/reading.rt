@@ -7,17 +7,17 @@ ghost use Rattle.intake.specs.Page.{cells_from, alone};
 ghost use Rattle.intake.specs.Views.{network_of};
 
 use crate::cells::Cells;
-use crate::records::{Shape, read_cell, read_heading};
+use crate::records::{CellShape, Shape, read_cell, read_heading};
 use frames::faults::PageFault;
 use frames::reader::FrameReader;
 use frames::records::read_end;
 
 /// Reads so many cells.
-fn read_cells(reader: &mut FrameReader, shape: Shape, count: usize) -> Result<Cells, PageFault>
+fn read_cells(reader: &mut FrameReader, shape: CellShape, count: usize) -> Result<Cells, PageFault>
     requires { count ≤ 48 }
-    ensures { ReadsPage (λ w cs. w ≡ network_of shape.pins shape.bytes cs) (cells_from shape.inputs shape.pins shape.bytes count [] (left reader.old) reader.old.line) (left reader.new) reader.new.line result }
+    ensures { ReadsPage (λ w cs. w ≡ network_of shape.of.pins shape.of.bytes cs) (cells_from shape.of.inputs shape.of.pins shape.of.bytes count [] (left reader.old) reader.old.line) (left reader.new) reader.new.line result }
 {
-    let mut cells = Cells::new(shape.inputs);
+    let mut cells = Cells::new(shape.of.inputs);
     for before in 0..count {
         let line = reader.line();
         let cell = read_cell(reader, shape, before)?.ok_or(PageFault::Missing { line })?;
@@ -39,12 +39,12 @@ pub(crate) fn read_page(
 {
     let line = reader.line();
     let heading = read_heading(reader, number)?.ok_or(PageFault::Missing { line })?;
-    let shape = Shape {
+    let of = Shape {
         inputs: heading.inputs,
         pins,
         bytes,
     };
-    let cells = read_cells(reader, shape, heading.count)?;
+    let cells = read_cells(reader, CellShape { of }, heading.count)?;
     read_end(reader)?;
     Ok(cells)
 }

@@ -21,12 +21,18 @@ pub struct Heading {
 
 /// What the cells of a page look like: how many inputs they may name, and how many pins and configuration bytes they have.
 #[derive(Clone, Copy)]
-pub(crate) struct Shape {
-    pub(crate) inputs: usize,
-    pub(crate) pins: usize,
-    pub(crate) bytes: usize,
-    ghost few_pins: { pins ≤ 5 },
-    ghost few_bytes: { bytes ≤ 16 },
+pub struct Shape {
+    pub inputs: usize,
+    pub pins: usize,
+    pub bytes: usize,
+}
+
+/// A shape that a cell has room for.
+#[derive(Clone, Copy)]
+pub(crate) struct CellShape {
+    pub(crate) of: Shape,
+    ghost few_pins: { of.pins ≤ 5 },
+    ghost few_bytes: { of.bytes ≤ 16 },
 }
 
 /// The heading of a network page of the family with this number; none at the end of the text.
@@ -75,19 +81,19 @@ fn are_pins(pins: &[u8], inputs: usize, before: usize) -> bool
 /// The next cell of a page, after `before` others; none at the end of the text.
 pub(crate) fn read_cell(
     reader: &mut FrameReader,
-    shape: Shape,
+    shape: CellShape,
     before: usize,
 ) -> Result<Option<Cell>, RecordFault>
-    ensures answer { answered (cell_of shape.pins shape.bytes) result ≡ cell_at shape.inputs shape.pins shape.bytes before (left reader.old) reader.old.line }
+    ensures answer { answered (cell_of shape.of.pins shape.of.bytes) result ≡ cell_at shape.of.inputs shape.of.pins shape.of.bytes before (left reader.old) reader.old.line }
     ensures moved { Moved reader.old reader.new }
 {
     let line = reader.line();
-    let len = shape.pins + shape.bytes + 2;
+    let len = shape.of.pins + shape.of.bytes + 2;
     let Some(frame) = read_due(reader, Kind::Cell, len)? else {
         return Ok(None);
     };
-    let (pins, config) = frame.bytes()[1..len - 1].split_at(shape.pins);
-    if !are_pins(pins, shape.inputs, before) {
+    let (pins, config) = frame.bytes()[1..len - 1].split_at(shape.of.pins);
+    if !are_pins(pins, shape.of.inputs, before) {
         return Err(RecordFault::BadPin { line });
     }
     Ok(Some(Cell::new(pins, config)))

@@ -1,7 +1,8 @@
 //! The values of the signals of a network.
 
-ghost use Rattle.std.specs.Prelude.{◌≡◌, ◌<◌, ◌≤◌, ◌↔◌, false, [], ◌∷◌, ◌++◌, map, length, take, drop, IsOk, OnOk, OnErr, slice_index_or};
+ghost use Rattle.std.specs.Prelude.{◌≡◌, ℕ, ◌/◌, ◌%◌, ◌^◌, ◌==◌, ◌<◌, ◌≤◌, ◌↔◌, false, [], ◌∷◌, ◌++◌, map, length, take, drop, IsOk, OnOk, OnErr, slice_index_or};
 ghost use Rattle.families.specs.Tables.{assignment};
+ghost use Rattle.rows.specs.Rows.{items};
 ghost use Rattle.intake.specs.Networks.{input_bits, last, pin_value};
 
 use bits::bit_of;
@@ -16,24 +17,34 @@ pub struct Signals {
 
 impl Model for Signals {
     ghost use Rattle.std.specs.Prelude.{◌≤◌, Bool, List, length};
+    ghost use Rattle.rows.specs.Rows.{items};
 
     ghost Value = { List Bool };
 
-    ghost view = { λ s. s.values.items };
+    ghost view = { λ s. items s.values };
 
-    ghost invariant = { λ s. (16 ≤ length s.values.items) × (length s.values.items ≤ 64) };
+    ghost invariant = { λ s. (16 ≤ length (items s.values)) × (length (items s.values) ≤ 64) };
+}
+
+/// The values of the inputs, input i at weight 2^i.
+fn input_values(inputs: u16) -> [bool; 16]
+    ensures long { length result ≡ 16 }
+    ensures each { (i : ℕ) → i < 16 → slice_index_or result i false ≡ (inputs / 2 ^ i % 2 == 1) }
+{
+    let mut values = [false; 16];
+    for (i, value) in values.iter_mut().enumerate() {
+        *value = bit_of(u64::from(inputs), i);
+    }
+    values
 }
 
 impl Signals {
     /// The signals of the inputs, input i at weight 2^i.
-    #[tactic(auto, using(rows::proofs::Firsts::length_first, rows::proofs::Firsts::first_push))]
     pub fn of_inputs(inputs: u16) -> Signals
         ensures { result ≡ input_bits inputs }
     {
         let mut values = Row::new(false);
-        for i in 0..16 {
-            values.push(bit_of(u64::from(inputs), i)).unwrap();
-        }
+        values.extend_from_slice(&input_values(inputs)).unwrap();
         Signals { values }
     }
 

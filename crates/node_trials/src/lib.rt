@@ -45,6 +45,22 @@ mod tests {
         assert!(rt; value_at(&chart, 36) && value_at(&chart, 9) && !value_at(&chart, 56));
     }
 
+    fn swapped(mut chart: NodeChart) -> NodeChart {
+        let _ = chart.swap(1);
+        chart
+    }
+
+    // A chart that is passed by value is copied, and stays as it was.
+    #[test]
+    fn copies(rt: HostRuntime) {
+        let mut chart = NodeChart::empty();
+        for _ in 0..3 {
+            assert_eq!(rt; with_a_pair(&mut chart), Ok(()));
+        }
+        let other = swapped(chart);
+        assert_eq!(rt; (chart.size(), other.size()), (6, 8));
+    }
+
     // The comparison of two numbers of two bits has 9 nodes, and 6 after one swap.
     #[test]
     fn the_comparison(rt: HostRuntime) {

@@ -4,6 +4,7 @@ use Rattle.std.specs.List.{HoldsAt}
 use Rattle.std.proofs.lemmas.List.{get_or_default, length_push}
 use Rattle.std.proofs.lemmas.Bool.{and_parts, and_from, or_left, or_right, or_from, cases_Bool, cond-true, cond-false, eqb-true, eq-eqb, ne_eqb, ltb-true}
 use Rattle.std.proofs.lemmas.Bool.Decides.{Decides-by_or}
+use Rattle.rows.specs.Rows.{items}
 use Rattle.nodes.specs.declared.node.Node.{Node}
 use Rattle.nodes.specs.declared.draft.Draft.{Draft}
 use Rattle.nodes.specs.declared.store.Store.{Store}
@@ -74,29 +75,29 @@ verdict-fits m ys y e apart none = cond-true _ _ _ e ∙ cond-false _ _ _ (or_fr
 
 -- the nodes of a store
 abbrev pub stored : Store → List Node
-stored s = s.nodes.items
+stored s = items s.nodes
 
 -- what a draft keeps of its store
 pub record Sound (m : ℕ) (s : Store) : Type 0 where
-  pub ordered : Ordered m s.nodes.items (length s.nodes.items)
-  pub proper : Proper s.nodes.items (length s.nodes.items)
-  pub single : Single s.nodes.items (length s.nodes.items)
+  pub ordered : Ordered m (items s.nodes) (length (items s.nodes))
+  pub proper : Proper (items s.nodes) (length (items s.nodes))
+  pub single : Single (items s.nodes) (length (items s.nodes))
 
 pub sound_of : (d : Draft) → Sound d.arity d.store
 sound_of d = record { ordered = d.ordered; proper = d.proper; single = d.single }
 
 -- what came of a node in its place: it repeats, and nothing changed, or it is the last of the nodes
 pub data Came (m : ℕ) (s t : Store) (y : Node) (n : ℕ) : Type 0 where
-  again : n < length s.nodes.items + 2 → verdict m (stored s) y ≡ repeated → stored t ≡ stored s → Came m s t y n
-  last : n ≡ length s.nodes.items + 2 → verdict m (stored s) y ≡ fits → length (stored s) < 1024 → stored t ≡ stored s ++ (y ∷ []) → Came m s t y n
+  again : n < length (items s.nodes) + 2 → verdict m (stored s) y ≡ repeated → stored t ≡ stored s → Came m s t y n
+  last : n ≡ length (items s.nodes) + 2 → verdict m (stored s) y ≡ fits → length (stored s) < 1024 → stored t ≡ stored s ++ (y ∷ []) → Came m s t y n
 
 module _ (m : ℕ) (s t : Store) (y : Node) (o : Sound m s) (ok : in_place m (stored s) y ≡ true) where
   pub came : (n : ℕ) → Did s t y n → Came m s t y n
   came n (dropped e q r) =
-      let a = above_draft s.nodes.items m y ok in
+      let a = above_draft (items s.nodes) m y ok in
       again (omega (arith, a.low-there)) (verdict-repeated m (stored s) y ok (or_left _ _ (eq-eqb y.low y.high q))) (ap stored e)
-  came n (there e apart two less is) = again less (verdict-repeated m (stored s) y ok (or_right _ _ (there-among s.nodes.items y n two less is))) (ap stored e)
-  came n (pushed room nodes apart absent r) = last r (verdict-fits m (stored s) y ok apart (absent_among s.nodes.items y absent)) room nodes
+  came n (there e apart two less is) = again less (verdict-repeated m (stored s) y ok (or_right _ _ (there-among (items s.nodes) y n two less is))) (ap stored e)
+  came n (pushed room nodes apart absent r) = last r (verdict-fits m (stored s) y ok apart (absent_among (items s.nodes) y absent)) room nodes
 
   kept-did : (n : ℕ) → Did s t y n → Sound m t
   kept-did n = go
@@ -108,28 +109,28 @@ module _ (m : ℕ) (s t : Store) (y : Node) (o : Sound m s) (ok : in_place m (st
       go (dropped e q r) = same_store e
       go (there e apart two less is) = same_store e
       go (pushed room nodes apart absent r) =
-          let g : Agree s.nodes.items t.nodes.items (length s.nodes.items) = λ i two less. ap (λ (z : List Node). at z i) nodes ∙ at_old s.nodes.items y i two less in
-          let new : at t.nodes.items (length s.nodes.items + 2) ≡ y = ap (λ (z : List Node). at z (length s.nodes.items + 2)) nodes ∙ at_new s.nodes.items y (length s.nodes.items + 2) refl in
-          let od = ordered_grown m (length s.nodes.items) s.nodes.items t.nodes.items y o.ordered g new (above_draft s.nodes.items m y ok) in
-          let rd = reduced_grown (length s.nodes.items) s.nodes.items t.nodes.items y (o.proper, o.single) g new apart absent in
-          let P : ℕ → Type 0 = λ k. Ordered m t.nodes.items k × Proper t.nodes.items k × Single t.nodes.items k in
-          let p : P (length t.nodes.items) = subst P (sym (ap length nodes ∙ length_push s.nodes.items y)) (od, rd.0, rd.1) in
+          let g : Agree (items s.nodes) (items t.nodes) (length (items s.nodes)) = λ i two less. ap (λ (z : List Node). at z i) nodes ∙ at_old (items s.nodes) y i two less in
+          let new : at (items t.nodes) (length (items s.nodes) + 2) ≡ y = ap (λ (z : List Node). at z (length (items s.nodes) + 2)) nodes ∙ at_new (items s.nodes) y (length (items s.nodes) + 2) refl in
+          let od = ordered_grown m (length (items s.nodes)) (items s.nodes) (items t.nodes) y o.ordered g new (above_draft (items s.nodes) m y ok) in
+          let rd = reduced_grown (length (items s.nodes)) (items s.nodes) (items t.nodes) y (o.proper, o.single) g new apart absent in
+          let P : ℕ → Type 0 = λ k. Ordered m (items t.nodes) k × Proper (items t.nodes) k × Single (items t.nodes) k in
+          let p : P (length (items t.nodes)) = subst P (sym (ap length nodes ∙ length_push (items s.nodes) y)) (od, rd.0, rd.1) in
           record { ordered = p.0; proper = p.1; single = p.2 }
 
   -- what a draft keeps of its store stays
-  pub kept : (r : Result ℕ Full) → MatchResult r (λ n. Did s t y n) (λ _. (t ≡ s) × (length s.nodes.items ≡ 1024) × (y.low ≡ y.high → ⊥) × Absent s.nodes.items (length s.nodes.items) y) → Sound m t
+  pub kept : (r : Result ℕ Full) → MatchResult r (λ n. Did s t y n) (λ _. (t ≡ s) × (length (items s.nodes) ≡ 1024) × (y.low ≡ y.high → ⊥) × Absent (items s.nodes) (length (items s.nodes)) y) → Sound m t
   kept (Ok n) h = kept-did n h
   kept (Err f) h = let P : Store → Type 0 = λ z. Sound m z in subst P (sym h.0) o
 
   -- where there is no room, the node would have been the last
-  pub full : length s.nodes.items ≡ 1024 → (y.low ≡ y.high → ⊥) → Absent s.nodes.items (length s.nodes.items) y → (verdict m (stored s) y ≡ fits) × (length (stored s) ≡ 1024)
-  full many apart absent = (verdict-fits m (stored s) y ok apart (absent_among s.nodes.items y absent), many)
+  pub full : length (items s.nodes) ≡ 1024 → (y.low ≡ y.high → ⊥) → Absent (items s.nodes) (length (items s.nodes)) y → (verdict m (stored s) y ≡ fits) × (length (stored s) ≡ 1024)
+  full many apart absent = (verdict-fits m (stored s) y ok apart (absent_among (items s.nodes) y absent), many)
 
 -- which of both it was, by the number that was answered
-pub came_again : (m : ℕ) (s t : Store) (y : Node) (n : ℕ) → Came m s t y n → n < length s.nodes.items + 2 → (verdict m (stored s) y ≡ repeated) × (stored t ≡ stored s)
+pub came_again : (m : ℕ) (s t : Store) (y : Node) (n : ℕ) → Came m s t y n → n < length (items s.nodes) + 2 → (verdict m (stored s) y ≡ repeated) × (stored t ≡ stored s)
 came_again m s t y n (again l v e) h = (v, e)
 came_again m s t y n (last r v l e) h = absurd (omega arith)
 
-pub came_last : (m : ℕ) (s t : Store) (y : Node) (n : ℕ) → Came m s t y n → length s.nodes.items + 2 ≤ n → (verdict m (stored s) y ≡ fits) × (length (stored s) < 1024) × (stored t ≡ stored s ++ (y ∷ []))
+pub came_last : (m : ℕ) (s t : Store) (y : Node) (n : ℕ) → Came m s t y n → length (items s.nodes) + 2 ≤ n → (verdict m (stored s) y ≡ fits) × (length (stored s) < 1024) × (stored t ≡ stored s ++ (y ∷ []))
 came_last m s t y n (again l v e) h = absurd (omega arith)
 came_last m s t y n (last r v l e) h = (v, l, e)

@@ -7,6 +7,7 @@ use Rattle.functions.specs.Classes.{same_fn}
 use Rattle.functions.proofs.Values.{same-sound, same_self}
 use Rattle.functions.proofs.Rows.{rows_same}
 use Rattle.charts.specs.Changes.{whole, Became, Recodable}
+use Rattle.rows.specs.Rows.{items}
 use Rattle.nodes.specs.declared.node.Node.{Node}
 use Rattle.std.proofs.lemmas.List.{get_or-take, length-take-le}
 use Rattle.nodes.specs.declared.node_chart.NodeChart.{NodeChart}
@@ -22,12 +23,12 @@ use Rattle.nodes.proofs.Shifting.{leaves_ready, recoded-mean}
 use Rattle.nodes.proofs.Unique.{sized}
 
 -- the diagram of a chart
-diagram_of : (s : NodeChart) → Diagram s.arity s.nodes.items (length s.nodes.items) s.root
+diagram_of : (s : NodeChart) → Diagram s.arity (items s.nodes) (length (items s.nodes)) s.root
 diagram_of s = record { ordered = s.ordered; reduced = (s.proper, s.single); rooted = s.rooted; reached = s.reached }
 
 -- a chart has as many nodes as the size of its function
-pub chart_size : (s : NodeChart) → length s.nodes.items ≡ size (node_function s)
-chart_size s = sized s.arity (length s.nodes.items) s.nodes.items s.root (diagram_of s)
+pub chart_size : (s : NodeChart) → length (items s.nodes) ≡ size (node_function s)
+chart_size s = sized s.arity (length (items s.nodes)) (items s.nodes) s.root (diagram_of s)
 
 -- a number that is there is one of the diagram's, and its variable is not before the depth
 there-level : (m c : ℕ) (xs : List Node) (d n : ℕ) → d ≤ m → There xs c d n → (n < c + 2) × (d ≤ level m xs n)
@@ -38,15 +39,15 @@ there-level m c xs d n dm (inner two nc l) = (nc, omega (arith, level-node m xs 
 pub whole_is : (s : NodeChart) → whole place_column (λ z. z.root) s ≡ node_function s
 whole_is s =
     let all : s.arity - 0 ≡ s.arity = omega arith in
-    let t : There s.nodes.items (length s.nodes.items) 0 s.root = elim (cases_lt s.root 2) [ inl h ↦ end h | inr h ↦ inner h s.rooted (omega arith) ] in
-    ap (λ (z : ℕ). mean s.nodes.items (s.arity - 0) 0 z) (there_seen t) ∙ ap (λ (z : ℕ). mean s.nodes.items z 0 s.root) all
+    let t : There (items s.nodes) (length (items s.nodes)) 0 s.root = elim (cases_lt s.root 2) [ inl h ↦ end h | inr h ↦ inner h s.rooted (omega arith) ] in
+    ap (λ (z : ℕ). mean (items s.nodes) (s.arity - 0) 0 z) (there_seen t) ∙ ap (λ (z : ℕ). mean (items s.nodes) z 0 s.root) all
 
 -- places that mean the same column stand for the same number
-seen-once : (s : NodeChart) (d a b : ℕ) → place_column s d a ≡ place_column s d b → seen s.nodes.items (length s.nodes.items) d a ≡ seen s.nodes.items (length s.nodes.items) d b
+seen-once : (s : NodeChart) (d a b : ℕ) → place_column s d a ≡ place_column s d b → seen (items s.nodes) (length (items s.nodes)) d a ≡ seen (items s.nodes) (length (items s.nodes)) d b
 unfolding mean
 seen-once s d a b e =
-    let xs = s.nodes.items in
-    let c = length s.nodes.items in
+    let xs = items s.nodes in
+    let c = length (items s.nodes) in
     let ta = seen_there xs c d a in
     let tb = seen_there xs c d b in
     elim (cases_lt s.arity d) [
@@ -59,20 +60,20 @@ seen-once s d a b e =
           canonical s.arity c xs s.ordered (s.proper, s.single) (s.arity - d) d (omega arith) (seen xs c d a) (seen xs c d b) la.0 lb.0 la.1 lb.1 e
     ]
   where
-    past : s.arity < d → {n : ℕ} → There s.nodes.items (length s.nodes.items) d n → n < 2
+    past : s.arity < d → {n : ℕ} → There (items s.nodes) (length (items s.nodes)) d n → n < 2
     past l {n} (end h) = h
     past l {n} (inner two nc h) = let p = s.ordered n two nc in absurd (omega (arith, p.0))
 
 -- places stand for the same number exactly if they mean the same column
-pub same_seen : (s : NodeChart) (d a b : ℕ) → eqb (seen s.nodes.items (length s.nodes.items) d a) (seen s.nodes.items (length s.nodes.items) d b) ≡ same_fn (place_column s d a) (place_column s d b)
+pub same_seen : (s : NodeChart) (d a b : ℕ) → eqb (seen (items s.nodes) (length (items s.nodes)) d a) (seen (items s.nodes) (length (items s.nodes)) d b) ≡ same_fn (place_column s d a) (place_column s d b)
 same_seen s d a b =
-    let x = seen s.nodes.items (length s.nodes.items) d a in
-    let y = seen s.nodes.items (length s.nodes.items) d b in
+    let x = seen (items s.nodes) (length (items s.nodes)) d a in
+    let y = seen (items s.nodes) (length (items s.nodes)) d b in
     let f = place_column s d a in
     let g = place_column s d b in
     elim (cases_eq x y) [
       | inl e ↦
-          let fg : f ≡ g = ap (mean s.nodes.items (s.arity - d) d) e in
+          let fg : f ≡ g = ap (mean (items s.nodes) (s.arity - d) d) e in
           eq-eqb x y e ∙ sym (subst (λ (z : Fn). same_fn f z ≡ true) fg (same_self f))
       | inr ne ↦ elim (cases_Bool (same_fn f g)) [
         | inl t ↦ absurd (ne (seen-once s d a b (same-sound f g t)))
@@ -90,14 +91,14 @@ zero_means xs (suc k) d = let e = zero_means xs k (suc d) in cc
 
 -- the function of a chart fits
 small_function : (s : NodeChart) → Small (node_function s)
-small_function s = (record { count = s.arity; within = s.small; arity = mean-arity s.nodes.items s.arity 0 s.root }, omega (arith, chart_size s, s.room))
+small_function s = (record { count = s.arity; within = s.small; arity = mean-arity (items s.nodes) s.arity 0 s.root }, omega (arith, chart_size s, s.room))
 
 pub node_chart_laws : NodeChartLaws
 node_chart_laws = record {
   diagram = diagram_of;
-  arity = λ s. mean-arity s.nodes.items s.arity 0 s.root;
+  arity = λ s. mean-arity (items s.nodes) s.arity 0 s.root;
   fits = small_function;
-  lacking = λ s d n h. rw h (zero_means s.nodes.items (s.arity - d) d);
+  lacking = λ s d n h. rw h (zero_means (items s.nodes) (s.arity - d) d);
 }
 
 -- ---- a chart in the place of another
@@ -128,22 +129,22 @@ coded f class_of j w we jl leaves len each =
     let long = length-take-le w leaves (omega arith) in
     record { many = long ∙ we; each = λ q less. get_or-take w leaves q 0 (omega arith) ∙ each q (omega arith) }
 
-module _ (s : NodeChart) (b j : ℕ) (places class_of : List ℕ) (ok : Recodable s.arity b j (length places) class_of) (leaves : List ℕ) (codes : Coded (λ z. seen s.nodes.items (length s.nodes.items) b (get_or places z 0)) class_of j leaves) where
+module _ (s : NodeChart) (b j : ℕ) (places class_of : List ℕ) (ok : Recodable s.arity b j (length places) class_of) (leaves : List ℕ) (codes : Coded (λ z. seen (items s.nodes) (length (items s.nodes)) b (get_or places z 0)) class_of j leaves) where
   -- each leaf is there at the depth b
-  leaf_there : (q : ℕ) → q < length leaves → (get_or leaves q 0 < length s.nodes.items + 2) × (b ≤ level s.arity s.nodes.items (get_or leaves q 0))
-  leaf_there q h = there-level s.arity (length s.nodes.items) s.nodes.items b (get_or leaves q 0) ok.bound (subst (There s.nodes.items (length s.nodes.items) b) (sym (codes.each q h)) (seen_there s.nodes.items (length s.nodes.items) b (get_or places (get_or class_of q 0) 0)))
+  leaf_there : (q : ℕ) → q < length leaves → (get_or leaves q 0 < length (items s.nodes) + 2) × (b ≤ level s.arity (items s.nodes) (get_or leaves q 0))
+  leaf_there q h = there-level s.arity (length (items s.nodes)) (items s.nodes) b (get_or leaves q 0) ok.bound (subst (There (items s.nodes) (length (items s.nodes)) b) (sym (codes.each q h)) (seen_there (items s.nodes) (length (items s.nodes)) b (get_or places (get_or class_of q 0) 0)))
 
   -- the leaves mean the columns of the classes
-  leaves-mean : rows j (λ q. mean s.nodes.items (s.arity - b) b (get_or leaves q 0)) ≡ recoded j (map (place_column s b) places) (λ q. get_or class_of q 0)
+  leaves-mean : rows j (λ q. mean (items s.nodes) (s.arity - b) b (get_or leaves q 0)) ≡ recoded j (map (place_column s b) places) (λ q. get_or class_of q 0)
   leaves-mean =
-      rows_same j (λ q. mean s.nodes.items (s.arity - b) b (get_or leaves q 0)) (λ q. get_or (map (place_column s b) places) (get_or class_of q 0) (bit false))
-      (λ q l. ap (mean s.nodes.items (s.arity - b) b) (codes.each q (omega (arith, codes.many))) ∙ sym (get_or-map (place_column s b) places (get_or class_of q 0) 0 (bit false) (ok.placed q l)))
+      rows_same j (λ q. mean (items s.nodes) (s.arity - b) b (get_or leaves q 0)) (λ q. get_or (map (place_column s b) places) (get_or class_of q 0) (bit false))
+      (λ q l. ap (mean (items s.nodes) (s.arity - b) b) (codes.each q (omega (arith, codes.many))) ∙ sym (get_or-map (place_column s b) places (get_or class_of q 0) 0 (bit false) (ok.placed q l)))
 
-  module _ (raw : List Node) (shifts : b < s.arity → Shifts s.nodes.items b j (length s.nodes.items + 2) raw) (e : ℕ) (all : b < s.arity → e ≡ length s.nodes.items) (none : b ≡ s.arity → e ≡ 0) where
+  module _ (raw : List Node) (shifts : b < s.arity → Shifts (items s.nodes) b j (length (items s.nodes) + 2) raw) (e : ℕ) (all : b < s.arity → e ≡ length (items s.nodes)) (none : b ≡ s.arity → e ≡ 0) where
     -- the moved nodes are ready for the new variables
     pub ready : Leaves raw e (s.arity - b + j) j leaves
-    ready = leaves_ready s.arity (length s.nodes.items) s.nodes.items s.ordered b j ok.bound raw shifts leaves leaf_there e all none
+    ready = leaves_ready s.arity (length (items s.nodes)) (items s.nodes) s.ordered b j ok.bound raw shifts leaves leaf_there e all none
 
     -- what the top of the new nodes means
     pub recoded_is : (ys : List Node) (c root : ℕ) → Topped raw e ys c (s.arity - b + j) j leaves 0 root → mean ys (s.arity - b + j) 0 root ≡ recoded j (map (place_column s b) places) (λ q. get_or class_of q 0)
-    recoded_is ys c root t = recoded-mean s.arity (length s.nodes.items) s.nodes.items s.ordered b j ok.bound raw shifts leaves leaf_there codes.many e ys c root t ∙ leaves-mean
+    recoded_is ys c root t = recoded-mean s.arity (length (items s.nodes)) (items s.nodes) s.ordered b j ok.bound raw shifts leaves leaf_there codes.many e ys c root t ∙ leaves-mean

@@ -2,6 +2,7 @@
 use Rattle.std.proofs.Common.{◌≡◌, ℕ, suc, ◌+◌, ◌-◌, ◌<◌, ◌≤◌, true, false, List, [], ◌∷◌, ◌++◌, length, sym, refl, ap, ◌∙◌, subst, ⊎_elim, arith}
 use Rattle.std.proofs.lemmas.Bool.{cases_lt}
 use Rattle.std.proofs.lemmas.List.{get_or_append_left, get_or_push, length_push}
+use Rattle.rows.specs.Rows.{items}
 use Rattle.nodes.specs.declared.node.Node.{Node}
 use Rattle.nodes.specs.declared.store.Store.{Store}
 use Rattle.functions.specs.Functions.{Fn, fork}
@@ -106,49 +107,49 @@ pub record Answer (m : ℕ) (xs : List Node) (c : ℕ) (ys : List Node) (c' : �
   pub more : c ≤ c'
 
 -- what each answer keeps and means
-pub made : (m : ℕ) (f : Fn) (s t : Store) (node : Node) (r : ℕ) → State m f s.nodes.items (length s.nodes.items) → (k : ℕ) → k + suc node.var ≡ m → Above m s.nodes.items (length s.nodes.items) node → Inside (fork (mean s.nodes.items k (suc node.var) node.low) (mean s.nodes.items k (suc node.var) node.high)) f → Did s t node r → State m f t.nodes.items (length t.nodes.items) × Answer m s.nodes.items (length s.nodes.items) t.nodes.items (length t.nodes.items) k node r
+pub made : (m : ℕ) (f : Fn) (s t : Store) (node : Node) (r : ℕ) → State m f (items s.nodes) (length (items s.nodes)) → (k : ℕ) → k + suc node.var ≡ m → Above m (items s.nodes) (length (items s.nodes)) node → Inside (fork (mean (items s.nodes) k (suc node.var) node.low) (mean (items s.nodes) k (suc node.var) node.high)) f → Did s t node r → State m f (items t.nodes) (length (items t.nodes)) × Answer m (items s.nodes) (length (items s.nodes)) (items t.nodes) (length (items t.nodes)) k node r
 made m f s t node r st k km above inside (dropped e q n) =
-    let P : Store → Type 0 = λ z. State m f z.nodes.items (length z.nodes.items) × Answer m s.nodes.items (length s.nodes.items) z.nodes.items (length z.nodes.items) k node r in
-    let lower : node.var < level m s.nodes.items r = let Q : ℕ → Type 0 = λ z. node.var < level m s.nodes.items z in subst Q (sym n) above.low-later in
-    let a : mean s.nodes.items (suc k) node.var r ≡ fork (mean s.nodes.items k (suc node.var) r) (mean s.nodes.items k (suc node.var) r) = mean_passes m s.nodes.items k node.var r lower in
+    let P : Store → Type 0 = λ z. State m f (items z.nodes) (length (items z.nodes)) × Answer m (items s.nodes) (length (items s.nodes)) (items z.nodes) (length (items z.nodes)) k node r in
+    let lower : node.var < level m (items s.nodes) r = let Q : ℕ → Type 0 = λ z. node.var < level m (items s.nodes) z in subst Q (sym n) above.low-later in
+    let a : mean (items s.nodes) (suc k) node.var r ≡ fork (mean (items s.nodes) k (suc node.var) r) (mean (items s.nodes) k (suc node.var) r) = mean_passes m (items s.nodes) k node.var r lower in
     let n' : r ≡ node.high = n ∙ q in
-    let b : mean s.nodes.items k (suc node.var) r ≡ mean s.nodes.items k (suc node.var) node.low = ap (λ (z : ℕ). mean s.nodes.items k (suc node.var) z) n in
-    let b' : mean s.nodes.items k (suc node.var) r ≡ mean s.nodes.items k (suc node.var) node.high = ap (λ (z : ℕ). mean s.nodes.items k (suc node.var) z) n' in
-    let d : mean s.nodes.items (suc k) node.var r ≡ fork (mean s.nodes.items k (suc node.var) node.low) (mean s.nodes.items k (suc node.var) node.high) = cc (a, b, b') in
+    let b : mean (items s.nodes) k (suc node.var) r ≡ mean (items s.nodes) k (suc node.var) node.low = ap (λ (z : ℕ). mean (items s.nodes) k (suc node.var) z) n in
+    let b' : mean (items s.nodes) k (suc node.var) r ≡ mean (items s.nodes) k (suc node.var) node.high = ap (λ (z : ℕ). mean (items s.nodes) k (suc node.var) z) n' in
+    let d : mean (items s.nodes) (suc k) node.var r ≡ fork (mean (items s.nodes) k (suc node.var) node.low) (mean (items s.nodes) k (suc node.var) node.high) = cc (a, b, b') in
     subst P (sym e) (
       st,
       record { there_is = omega (arith, above.low-there); later = omega arith; means = d; agree = λ i two less. refl; more = omega arith },
     )
 made m f s t node r st k km above inside (there e apart two less is) =
-    let P : Store → Type 0 = λ z. State m f z.nodes.items (length z.nodes.items) × Answer m s.nodes.items (length s.nodes.items) z.nodes.items (length z.nodes.items) k node r in
-    let v : (at s.nodes.items r).var ≡ node.var = ap (λ (z : Node). z.var) is in
+    let P : Store → Type 0 = λ z. State m f (items z.nodes) (length (items z.nodes)) × Answer m (items s.nodes) (length (items s.nodes)) (items z.nodes) (length (items z.nodes)) k node r in
+    let v : (at (items s.nodes) r).var ≡ node.var = ap (λ (z : Node). z.var) is in
     subst P (sym e) (
       st,
       record {
         there_is = less;
-        later = omega (arith, level-node m s.nodes.items r two, v);
-        means = mean_stands s.nodes.items k node.var r node two is refl;
+        later = omega (arith, level-node m (items s.nodes) r two, v);
+        means = mean_stands (items s.nodes) k node.var r node two is refl;
         agree = λ i a b. refl;
         more = omega arith;
       },
     )
 made m f s t node r st k km above inside (pushed room nodes apart absent n) =
-    let g : Agree s.nodes.items t.nodes.items (length s.nodes.items) = λ i two less. ap (λ (z : List Node). at z i) nodes ∙ at_old s.nodes.items node i two less in
-    let new : at t.nodes.items (length s.nodes.items + 2) ≡ node = ap (λ (z : List Node). at z (length s.nodes.items + 2)) nodes ∙ at_new s.nodes.items node (length s.nodes.items + 2) refl in
-    let st' : State m f t.nodes.items (length s.nodes.items + 1) = grow m f s.nodes.items (length s.nodes.items) st node k km above inside apart absent t.nodes.items g new in
-    let count : length t.nodes.items ≡ length s.nodes.items + 1 = ap length nodes ∙ length_push s.nodes.items node in
-    let C : ℕ → Type 0 = λ z. State m f t.nodes.items z in
-    let is : at t.nodes.items r ≡ node = ap (at t.nodes.items) n ∙ new in
+    let g : Agree (items s.nodes) (items t.nodes) (length (items s.nodes)) = λ i two less. ap (λ (z : List Node). at z i) nodes ∙ at_old (items s.nodes) node i two less in
+    let new : at (items t.nodes) (length (items s.nodes) + 2) ≡ node = ap (λ (z : List Node). at z (length (items s.nodes) + 2)) nodes ∙ at_new (items s.nodes) node (length (items s.nodes) + 2) refl in
+    let st' : State m f (items t.nodes) (length (items s.nodes) + 1) = grow m f (items s.nodes) (length (items s.nodes)) st node k km above inside apart absent (items t.nodes) g new in
+    let count : length (items t.nodes) ≡ length (items s.nodes) + 1 = ap length nodes ∙ length_push (items s.nodes) node in
+    let C : ℕ → Type 0 = λ z. State m f (items t.nodes) z in
+    let is : at (items t.nodes) r ≡ node = ap (at (items t.nodes)) n ∙ new in
     let two : 2 ≤ r = omega arith in
-    let v : (at t.nodes.items r).var ≡ node.var = ap (λ (z : Node). z.var) is in
-    let a = mean_stands t.nodes.items k node.var r node two is refl in
-    let b = mean-agree m (length s.nodes.items) s.nodes.items t.nodes.items st.ordered g k (suc node.var) node.low above.low-there in
-    let b' = mean-agree m (length s.nodes.items) s.nodes.items t.nodes.items st.ordered g k (suc node.var) node.high above.high-there in
-    let d : mean t.nodes.items (suc k) node.var r ≡ fork (mean s.nodes.items k (suc node.var) node.low) (mean s.nodes.items k (suc node.var) node.high) = cc (a, b, b') in (
+    let v : (at (items t.nodes) r).var ≡ node.var = ap (λ (z : Node). z.var) is in
+    let a = mean_stands (items t.nodes) k node.var r node two is refl in
+    let b = mean-agree m (length (items s.nodes)) (items s.nodes) (items t.nodes) st.ordered g k (suc node.var) node.low above.low-there in
+    let b' = mean-agree m (length (items s.nodes)) (items s.nodes) (items t.nodes) st.ordered g k (suc node.var) node.high above.high-there in
+    let d : mean (items t.nodes) (suc k) node.var r ≡ fork (mean (items s.nodes) k (suc node.var) node.low) (mean (items s.nodes) k (suc node.var) node.high) = cc (a, b, b') in (
       subst C (sym count) st',
       record {
         there_is = omega arith;
-        later = omega (arith, level-node m t.nodes.items r two, v);
+        later = omega (arith, level-node m (items t.nodes) r two, v);
         means = d;
         agree = g;
         more = omega arith;

@@ -2,6 +2,7 @@
 use Rattle.std.proofs.Common.{◌≡◌, ℕ, zero, suc, ◌+◌, ◌-◌, ◌<◌, ◌≤◌, Bool, ◌⊎◌, List, length, get_or, set, replicate, sym, refl, ap, ◌∙◌, subst, inr, ⊎_elim, arith}
 use Rattle.std.proofs.lemmas.Bool.{cases_lt, cases_eq}
 use Rattle.std.proofs.lemmas.List.{get_or-set_same, get_or-set_other, get_or-replicate, length-replicate, length-set}
+use Rattle.rows.specs.Rows.{items}
 use Rattle.nodes.specs.declared.node.Node.{Node}
 use Rattle.nodes.specs.declared.store.Store.{Store}
 use Rattle.functions.specs.Functions.{Fn, fork}
@@ -215,32 +216,32 @@ module _ (m : ℕ) (raw : List Node) (o : Ordered m raw (length raw)) (root : �
         too_many m (mean raw m 0 root) xs c st (renamed (at raw (i + 2)) new) r.k r.km r.above r.inside q.0 q.1 len
 
   -- a marked node gets the number that the store answers
-  pub turn_more : (s s' : Store) (r : ℕ) → length raw ≤ 3072 → length new ≡ 3074 → State m (mean raw m 0 root) s.nodes.items (length s.nodes.items) → Turn m raw marks i s.nodes.items (length s.nodes.items) new → (y : Node) → y ≡ renamed (get_or raw i blank) new → Did s s' y r → State m (mean raw m 0 root) s'.nodes.items (length s'.nodes.items) × Turn m raw marks (i + 1) s'.nodes.items (length s'.nodes.items) (set new (i + 2) r) × (length (set new (i + 2) r) ≡ 3074)
+  pub turn_more : (s s' : Store) (r : ℕ) → length raw ≤ 3072 → length new ≡ 3074 → State m (mean raw m 0 root) (items s.nodes) (length (items s.nodes)) → Turn m raw marks i (items s.nodes) (length (items s.nodes)) new → (y : Node) → y ≡ renamed (get_or raw i blank) new → Did s s' y r → State m (mean raw m 0 root) (items s'.nodes) (length (items s'.nodes)) × Turn m raw marks (i + 1) (items s'.nodes) (length (items s'.nodes)) (set new (i + 2) r) × (length (set new (i + 2) r) ≡ 3074)
   turn_more s s' r long len st t y e did =
-      let rd = ready s.nodes.items (length s.nodes.items) st t in
+      let rd = ready (items s.nodes) (length (items s.nodes)) st t in
       let d = made m (mean raw m 0 root) s s' (renamed (at raw (i + 2)) new) r st rd.k rd.km rd.above rd.inside (subst (λ (z : Node). Did s s' z r) (named y e) did) in
       let a = d.1 in
       let v = level-node m raw (i + 2) (omega arith) in
       let km = rd.km in
       let lk : m - level m raw (i + 2) ≡ suc rd.k = omega arith in
-      let fresh : Stands m raw (i + 2) s'.nodes.items (length s'.nodes.items) r =
+      let fresh : Stands m raw (i + 2) (items s'.nodes) (length (items s'.nodes)) r =
       record {
         there_is = a.there_is;
         later = omega (arith, a.later, v);
-        means = ap (λ (z : ℕ). mean s'.nodes.items z (level m raw (i + 2)) r) lk ∙ (ap (λ (z : ℕ). mean s'.nodes.items (suc rd.k) z r) v ∙ (a.means ∙ rd.is));
+        means = ap (λ (z : ℕ). mean (items s'.nodes) z (level m raw (i + 2)) r) lk ∙ (ap (λ (z : ℕ). mean (items s'.nodes) (suc rd.k) z r) v ∙ (a.means ∙ rd.is));
       } in (
         d.0,
         (λ n less w.
             ⊎_elim
             (λ (e : n ≡ i + 2).
             let q : get_or (set new (i + 2) r) (i + 2) 0 ≡ r = get_or-set_same new (i + 2) r 0 (omega arith) in
-            let P : ℕ → Type 0 = λ z. Stands m raw (i + 2) s'.nodes.items (length s'.nodes.items) z in
-            let Q : ℕ → Type 0 = λ z. Stands m raw z s'.nodes.items (length s'.nodes.items) (get_or (set new (i + 2) r) z 0) in
+            let P : ℕ → Type 0 = λ z. Stands m raw (i + 2) (items s'.nodes) (length (items s'.nodes)) z in
+            let Q : ℕ → Type 0 = λ z. Stands m raw z (items s'.nodes) (length (items s'.nodes)) (get_or (set new (i + 2) r) z 0) in
             subst Q (sym e) (subst P (sym q) fresh))
             (λ (e : n ≡ i + 2 → ⊥).
             let q = get_or-set_other new (i + 2) n r 0 e in
-            let P : ℕ → Type 0 = λ z. Stands m raw n s'.nodes.items (length s'.nodes.items) z in
-            subst P (sym q) (stands_on m raw n s.nodes.items (length s.nodes.items) (get_or new n 0) s'.nodes.items (length s'.nodes.items) st.ordered a.agree a.more (t n (omega arith) w)))
+            let P : ℕ → Type 0 = λ z. Stands m raw n (items s'.nodes) (length (items s'.nodes)) z in
+            subst P (sym q) (stands_on m raw n (items s.nodes) (length (items s.nodes)) (get_or new n 0) (items s'.nodes) (length (items s'.nodes)) st.ordered a.agree a.more (t n (omega arith) w)))
             (cases_eq n (i + 2))),
         length-set new (i + 2) r ∙ len,
       )

@@ -1,5 +1,6 @@
 -- Drafts: nodes given one by one, children first, and what is wrong with one node more.
 use Rattle.std.specs.Prelude.{◌≡◌, ℕ, ◌+◌, ◌<◌, Bool, false, cond, ◌&&◌, ◌||◌, List, [], ◌∷◌, ◌++◌, length, Some, None, Ok, Err, Option, Result, ◌==◌, nat_lt}
+use Rattle.rows.specs.Rows.{items}
 use Rattle.nodes.specs.declared.node.Node.{Node}
 use Rattle.nodes.specs.declared.node_chart.NodeChart.{NodeChart}
 use Rattle.nodes.specs.declared.draft.Draft.{Draft}
@@ -54,11 +55,11 @@ top (x ∷ xs) one = length (x ∷ xs) + 1
 
 -- the nodes of a draft
 abbrev pub drafted : Draft → List Node
-drafted d = d.store.nodes.items
+drafted d = items d.store.nodes
 
 -- the nodes of a chart
 abbrev pub chart_nodes : NodeChart → List Node
-chart_nodes s = s.nodes.items
+chart_nodes s = items s.nodes
 
 -- a call that adds the node y to the nodes xs of m variables, which are ys after it
 abbrev pub Added : ℕ → List Node → List Node → Node → Result (Unit {0}) NodeFlaw → Type 0

@@ -1,6 +1,7 @@
 -- The laws of diagrams and of node charts.
 use Rattle.std.specs.Prelude.{◌≡◌, ℕ, ◌+◌, ◌-◌, ◌<◌, ◌≤◌, false, List, length}
 use Rattle.functions.specs.Functions.{Arity, tree}
+use Rattle.rows.specs.Rows.{items}
 use Rattle.nodes.specs.declared.node.Node.{Node}
 use Rattle.nodes.specs.Diagrams.{node, at, mean, level, Diagram}
 use Rattle.nodes.specs.Sizes.{size, Small}
@@ -35,10 +36,10 @@ pub record DiagramLaws : Type 0 where
 -- the laws of node charts
 pub record NodeChartLaws : Type 0 where
   -- a node chart is the reduced ordered diagram of its function
-  pub diagram : (s : NodeChart) → Diagram s.arity s.nodes.items (length s.nodes.items) s.root
+  pub diagram : (s : NodeChart) → Diagram s.arity (items s.nodes) (length (items s.nodes)) s.root
   -- which has the chart's number of arguments
   pub arity : (s : NodeChart) → Arity s.arity (node_function s)
   -- and fits
   pub fits : (s : NodeChart) → Small (node_function s)
   -- a place that is not there at a depth means the zero column
-  pub lacking : (s : NodeChart) (d n : ℕ) → has s.nodes.items (length s.nodes.items) d n ≡ false → place_column s d n ≡ tree (s.arity - d) (λ i. false)
+  pub lacking : (s : NodeChart) (d n : ℕ) → has (items s.nodes) (length (items s.nodes)) d n ≡ false → place_column s d n ≡ tree (s.arity - d) (λ i. false)

@@ -1,6 +1,7 @@
 -- What the places of a node chart mean, and what a node chart takes on.
 use Rattle.std.specs.Prelude.{◌≡◌, ℕ, ◌+◌, ◌-◌, ◌<◌, Bool, cond, ◌&&◌, ◌||◌, List, length, Result, MatchResult, nat_le, nat_lt}
 use Rattle.functions.specs.Functions.{Fn}
+use Rattle.rows.specs.Rows.{items}
 use Rattle.nodes.specs.declared.node.Node.{Node}
 use Rattle.nodes.specs.declared.node_chart.NodeChart.{NodeChart}
 use Rattle.nodes.specs.Diagrams.{at, down, mean}
@@ -16,15 +17,15 @@ seen xs c d n = cond (has xs c d n) n 0
 
 -- the column of the place n at the depth d
 abbrev pub place_column : NodeChart → ℕ → ℕ → Fn
-place_column s d n = mean s.nodes.items (s.arity - d) d (seen s.nodes.items (length s.nodes.items) d n)
+place_column s d n = mean (items s.nodes) (s.arity - d) d (seen (items s.nodes) (length (items s.nodes)) d n)
 
 -- the place that the value v of the argument at the depth d leads to
 abbrev pub onward : NodeChart → ℕ → ℕ → Bool → ℕ
-onward s d n v = cond (nat_lt d s.arity) (down v s.nodes.items d (seen s.nodes.items (length s.nodes.items) d n)) n
+onward s d n v = cond (nat_lt d s.arity) (down v (items s.nodes) d (seen (items s.nodes) (length (items s.nodes)) d n)) n
 
 -- the function that a node chart means
 abbrev pub node_function : NodeChart → Fn
-node_function s = mean s.nodes.items s.arity 0 s.root
+node_function s = mean (items s.nodes) s.arity 0 s.root
 
 -- the chart of the function f of m arguments
 pub record Drawn (m : ℕ) (f : Fn) (s : NodeChart) : Type 0 where

@@ -4,6 +4,7 @@ use Rattle.std.proofs.Common.{sym, ap, ◌∙◌, inl, inr, add-one, arith}
 use Rattle.std.proofs.lemmas.Bool.{ltb-true, ltb-false, leb-true, eqb-true, eqb-false, and_parts, and_cases, cases_lt, lt-ltb, le-ltb, le-leb, ne_eqb, true≢false}
 use Rattle.functions.specs.Functions.{Fn, bit, fork}
 use Rattle.charts.specs.Laws.{Laws}
+use Rattle.rows.specs.Rows.{items}
 use Rattle.nodes.specs.declared.node.Node.{Node}
 use Rattle.nodes.specs.declared.node_chart.NodeChart.{NodeChart}
 use Rattle.nodes.specs.Diagrams.{at, child, tests, down, mean, level, Placed, Ordered}
@@ -68,8 +69,8 @@ column_forks : (s : NodeChart) (d n : ℕ) → d < s.arity →
     place_column s d n ≡ fork (place_column s (d + 1) (onward s d n false)) (place_column s (d + 1) (onward s d n true))
 unfolding mean
 column_forks s d n h =
-    let xs = s.nodes.items in
-    let c = length s.nodes.items in
+    let xs = items s.nodes in
+    let c = length (items s.nodes) in
     let t = seen_there xs c d n in
     let low = there_seen (down_there s.arity c xs s.ordered false d (seen xs c d n) t) in
     let high = there_seen (down_there s.arity c xs s.ordered true d (seen xs c d n) t) in
@@ -87,12 +88,12 @@ pub column_ends : (s : NodeChart) (d n : ℕ) → s.arity ≤ d → place_column
 unfolding mean
 column_ends s d n h =
     let none : s.arity - d ≡ 0 = omega arith in
-    rw none (ap bit (go (has s.nodes.items (length s.nodes.items) d n) refl))
+    rw none (ap bit (go (has (items s.nodes) (length (items s.nodes)) d n) refl))
   where
-    go : (b : Bool) → has s.nodes.items (length s.nodes.items) d n ≡ b → (cond b n 0 == 1) ≡ (n == 1)
+    go : (b : Bool) → has (items s.nodes) (length (items s.nodes)) d n ≡ b → (cond b n 0 == 1) ≡ (n == 1)
     go true e = refl
     go false e = elim (cases_lt n 2) [
-      | inl l ↦ absurd (true≢false (sym (there_has {xs = s.nodes.items} {c = length s.nodes.items} {d = d} (end l)) ∙ e))
+      | inl l ↦ absurd (true≢false (sym (there_has {xs = items s.nodes} {c = length (items s.nodes)} {d = d} (end l)) ∙ e))
       | inr l ↦ sym (ne_eqb n 1 (λ q. omega arith))
     ]
 

@@ -1,4 +1,5 @@
 ghost use Rattle.std.specs.Prelude.{◌≤◌, length};
+ghost use Rattle.rows.specs.Rows.{items};
 ghost use Rattle.nodes.specs.Diagrams.{Ordered, Proper, Single};
 
 use super::store::Store;
@@ -10,7 +11,7 @@ pub struct Draft {
     pub(crate) store: Store,
     pub(crate) arity: usize,
     ghost small: { arity ≤ 16 },
-    ghost ordered: { Ordered arity store.nodes.items (length store.nodes.items) },
-    ghost proper: { Proper store.nodes.items (length store.nodes.items) },
-    ghost single: { Single store.nodes.items (length store.nodes.items) },
+    ghost ordered: { Ordered arity (items store.nodes) (length (items store.nodes)) },
+    ghost proper: { Proper (items store.nodes) (length (items store.nodes)) },
+    ghost single: { Single (items store.nodes) (length (items store.nodes)) },
 }

@@ -1,12 +1,13 @@
-ghost use Rattle.std.specs.Prelude.{◌≡◌, ◌+◌, ◌*◌, ◌<◌, length};
+ghost use Rattle.std.specs.Prelude.{◌≡◌, ◌+◌, ◌*◌, ◌<◌, [], length};
 ghost use Rattle.functions.specs.Functions.{exchanged};
+ghost use Rattle.rows.specs.Rows.{items};
 ghost use Rattle.nodes.specs.Diagrams.{at, down};
 ghost use Rattle.nodes.specs.Exchanges.{num, Trio, Trios};
 ghost use Rattle.nodes.specs.NodeCharts.{node_function, Draws};
 
 use super::node::Node;
 use super::node_chart::NodeChart;
-use super::raw::Raw;
+use super::raw::{MOST_NODES, Raw};
 use super::store::Full;
 
 /// The three nodes that stand for one.
@@ -27,8 +28,8 @@ fn tripled(n: u16) -> u16
 
 /// The node at `i`, whose children have smaller numbers.
 fn read(chart: &NodeChart, i: usize) -> Node
-    requires { i < length chart.now.nodes.items }
-    ensures is { result ≡ at chart.now.nodes.items (i + 2) }
+    requires { i < length (items chart.now.nodes) }
+    ensures is { result ≡ at (items chart.now.nodes) (i + 2) }
     ensures low { result.low < i + 2 }
     ensures high { result.high < i + 2 }
 {
@@ -37,8 +38,8 @@ fn read(chart: &NodeChart, i: usize) -> Node
 
 /// Where the value of the variable `var` leads from `n`, tripled.
 fn led(chart: &NodeChart, value: bool, var: u8, n: u16) -> u16
-    requires { n < length chart.now.nodes.items + 2 }
-    ensures { result ≡ num (down value chart.now.nodes.items var n) }
+    requires { n < length (items chart.now.nodes) + 2 }
+    ensures { result ≡ num (down value (items chart.now.nodes) var n) }
 {
     if n > 1 {
         let node = read(chart, usize::from(n) - 2);
@@ -51,12 +52,12 @@ fn led(chart: &NodeChart, value: bool, var: u8, n: u16) -> u16
 
 /// The nodes for the node at `i` once `p` and `p` + 1 are exchanged.
 fn parted(chart: &NodeChart, p: u8, i: usize, node: Node) -> Three
-    requires there { i < length chart.now.nodes.items }
+    requires there { i < length (items chart.now.nodes) }
     requires small { p < 16 }
-    requires is { node ≡ at chart.now.nodes.items (i + 2) }
+    requires is { node ≡ at (items chart.now.nodes) (i + 2) }
     requires low { node.low < i + 2 }
     requires high { node.high < i + 2 }
-    ensures { Trio chart.now.nodes.items p (i + 2) result.a result.b result.c }
+    ensures { Trio (items chart.now.nodes) p (i + 2) result.a result.b result.c }
 {
     if node.var == p {
         let low = led(chart, false, p + 1, node.low);
@@ -75,21 +76,20 @@ fn parted(chart: &NodeChart, p: u8, i: usize, node: Node) -> Three
     Three { a, b: a, c }
 }
 
-/// The nodes with `p` and `p` + 1 exchanged, not yet reduced.
-fn spread_out(chart: &NodeChart, p: u8) -> Raw
-    requires { p < 16 }
-    ensures arity { result.arity ≡ chart.now.arity }
-    ensures count { length result.nodes.items ≡ 3 * length chart.now.nodes.items }
-    ensures trios { Trios chart.now.nodes.items p (length chart.now.nodes.items + 2) result.nodes.items }
+/// Puts the nodes with `p` and `p` + 1 exchanged into a diagram that has none.
+fn spread_out(chart: &NodeChart, p: u8, raw: &mut Raw<MOST_NODES>)
+    requires small { p < 16 }
+    requires none { items raw.old.nodes ≡ [] }
+    ensures arity { raw.new.arity ≡ raw.old.arity }
+    ensures count { length (items raw.new.nodes) ≡ 3 * length (items chart.now.nodes) }
+    ensures trios { Trios (items chart.now.nodes) p (length (items chart.now.nodes) + 2) (items raw.new.nodes) }
 {
-    let mut raw = Raw::new(chart.arity);
     for (i, node) in chart.nodes.as_slice().iter().enumerate() {
         let Three { a, b, c } = parted(chart, p, i, *node);
         raw.push(a);
         raw.push(b);
         raw.push(c);
     }
-    raw
 }
 
 /// The chart with `p` and `p` + 1 exchanged, if the function's size is at most 1,024.
@@ -97,5 +97,7 @@ pub(crate) fn exchange(chart: &NodeChart, p: u8) -> Result<NodeChart, Full>
     requires { p + 1 < chart.now.arity }
     ensures { Draws chart.now.arity (exchanged p (node_function chart.now)) result }
 {
-    spread_out(chart, p).reduced(tripled(chart.root))
+    let mut raw = Raw::new(chart.arity);
+    spread_out(chart, p, &mut raw);
+    raw.reduced(tripled(chart.root))
 }

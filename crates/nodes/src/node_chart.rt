@@ -1,4 +1,5 @@
 ghost use Rattle.std.specs.Prelude.{◌+◌, ◌<◌, ◌≤◌, length};
+ghost use Rattle.rows.specs.Rows.{items};
 ghost use Rattle.nodes.specs.Diagrams.{Ordered, Proper, Single, Reached};
 
 use super::node::Node;
@@ -15,10 +16,10 @@ pub struct NodeChart {
     pub(crate) arity: usize,
     pub(crate) root: u16,
     ghost small: { arity ≤ 16 },
-    ghost room: { length nodes.items ≤ 1024 },
-    ghost rooted: { root < length nodes.items + 2 },
-    ghost ordered: { Ordered arity nodes.items (length nodes.items) },
-    ghost proper: { Proper nodes.items (length nodes.items) },
-    ghost single: { Single nodes.items (length nodes.items) },
-    ghost reached: { Reached nodes.items (length nodes.items) root },
+    ghost room: { length (items nodes) ≤ 1024 },
+    ghost rooted: { root < length (items nodes) + 2 },
+    ghost ordered: { Ordered arity (items nodes) (length (items nodes)) },
+    ghost proper: { Proper (items nodes) (length (items nodes)) },
+    ghost single: { Single (items nodes) (length (items nodes)) },
+    ghost reached: { Reached (items nodes) (length (items nodes)) root },
 }

@@ -1,4 +1,5 @@
 ghost use Rattle.std.specs.Prelude.{◌≡◌, ◌==◌, length};
+ghost use Rattle.rows.specs.Rows.{items};
 ghost use Rattle.nodes.specs.NodeCharts.{seen};
 
 use super::node_chart::NodeChart;
@@ -13,7 +14,7 @@ pub(crate) fn is_one(place: usize) -> bool
 impl NodeChart {
     /// The number that `n` stands for at `depth`: the end 0 if it is not there.
     pub(crate) fn number(&self, depth: usize, n: usize) -> u16
-        ensures { result ≡ seen self.now.nodes.items (length self.now.nodes.items) depth n }
+        ensures { result ≡ seen (items self.now.nodes) (length (items self.now.nodes)) depth n }
     {
         let nodes = self.nodes.as_slice();
         if n < 2 || (n < nodes.len() + 2 && depth <= usize::from(nodes[n - 2].var)) {
@@ -25,7 +26,7 @@ impl NodeChart {
 
     /// Whether two places stand for the same number at `depth`.
     pub(crate) fn alike(&self, depth: usize, a: usize, b: usize) -> bool
-        ensures { result ≡ (seen self.now.nodes.items (length self.now.nodes.items) depth a == seen self.now.nodes.items (length self.now.nodes.items) depth b) }
+        ensures { result ≡ (seen (items self.now.nodes) (length (items self.now.nodes)) depth a == seen (items self.now.nodes) (length (items self.now.nodes)) depth b) }
     {
         self.number(depth, a) == self.number(depth, b)
     }

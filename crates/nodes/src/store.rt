@@ -1,4 +1,5 @@
 ghost use Rattle.std.specs.Prelude.{◌≡◌, ◌+◌, ◌*◌, ◌%◌, ◌<◌, ◌≤◌, length};
+ghost use Rattle.rows.specs.Rows.{items};
 ghost use Rattle.nodes.specs.Buckets.{hash, link, Indexed};
 
 use super::node::Node;
@@ -12,8 +13,8 @@ pub(crate) struct Store {
     pub(crate) nodes: Row<Node, ROOM>,
     pub(crate) heads: [Option<u16>; ROOM],
     pub(crate) nexts: [Option<u16>; ROOM],
-    ghost room: { length nodes.items ≤ 1024 },
-    ghost indexed: { Indexed nodes.items heads nexts (length nodes.items) },
+    ghost room: { length (items nodes) ≤ 1024 },
+    ghost indexed: { Indexed (items nodes) heads nexts (length (items nodes)) },
 }
 
 // Kept: beside the row's `Full`, since a conversion into the charts' refusal has to be of a type of this crate.
@@ -35,7 +36,7 @@ impl Store {
 
     /// The store with no node.
     pub(crate) fn new() -> Store
-        ensures { result.nodes.items ≡ [] }
+        ensures { items result.nodes ≡ [] }
     {
         Store {
             nodes: Row::new(Node::new(0, 0, 0)),
@@ -55,7 +56,7 @@ impl Store {
 
     /// The number of the node, if it is there.
     fn find(&self, node: Node) -> Option<u16>
-        ensures { MatchOption result (Absent self.now.nodes.items (length self.now.nodes.items) node) (λ n. (2 ≤ n) × (n < length self.now.nodes.items + 2) × (at self.now.nodes.items n ≡ node)) }
+        ensures { MatchOption result (Absent (items self.now.nodes) (length (items self.now.nodes)) node) (λ n. (2 ≤ n) × (n < length (items self.now.nodes) + 2) × (at (items self.now.nodes) n ≡ node)) }
     {
         // Kept: as `successors(..).find(..)` the proof did not close, since nothing there says that the links end.
         let mut cur = self.heads[bucket(node)];
@@ -70,9 +71,9 @@ impl Store {
 
     /// One node more, which is not there yet.
     fn push(&mut self, node: Node) -> u16
-        requires { length self.old.nodes.items < 1024 }
-        ensures number { result ≡ length self.old.nodes.items + 2 }
-        ensures nodes { self.new.nodes.items ≡ self.old.nodes.items ++ (node ∷ []) }
+        requires { length (items self.old.nodes) < 1024 }
+        ensures number { result ≡ length (items self.old.nodes) + 2 }
+        ensures nodes { items self.new.nodes ≡ items self.old.nodes ++ (node ∷ []) }
     {
         let i = self.nodes.as_slice().len();
         let b = bucket(node);
@@ -85,7 +86,7 @@ impl Store {
 
     /// The number of the node: its child if both are one, the node's if it is there, or else a new one's.
     pub(crate) fn make(&mut self, node: Node) -> Result<u16, Full>
-        ensures { MatchResult result (λ n. Did self.old self.new node n) (λ _. (self.new ≡ self.old) × (length self.old.nodes.items ≡ 1024) × (node.low ≢ node.high) × Absent self.old.nodes.items (length self.old.nodes.items) node) }
+        ensures { MatchResult result (λ n. Did self.old self.new node n) (λ _. (self.new ≡ self.old) × (length (items self.old.nodes) ≡ 1024) × (node.low ≢ node.high) × Absent (items self.old.nodes) (length (items self.old.nodes)) node) }
     {
         if node.low == node.high {
             return Ok(node.low);
@@ -102,8 +103,8 @@ impl Store {
     /// The chart of these nodes with the root `root`.
     pub(crate) fn chart(&self, arity: usize, root: u16) -> NodeChart
         requires small { arity ≤ 16 }
-        requires diagram { Diagram arity self.now.nodes.items (length self.now.nodes.items) root }
-        ensures nodes { result.nodes.items ≡ self.now.nodes.items }
+        requires diagram { Diagram arity (items self.now.nodes) (length (items self.now.nodes)) root }
+        ensures nodes { items result.nodes ≡ items self.now.nodes }
         ensures arity { result.arity ≡ arity }
         ensures root { result.root ≡ root }
     {

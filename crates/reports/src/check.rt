@@ -1,6 +1,6 @@
 //! The report on a text: each line in words, and the total.
 
-ghost use Rattle.std.specs.Prelude.{◌≡◌, IfOk, string_bytes};
+ghost use Rattle.std.specs.Prelude.{◌≡◌, [], ◌∷◌, ◌++◌, IfOk, string_bytes};
 ghost use Rattle.frames.specs.Reading.{Moved};
 ghost use Rattle.reports.specs.Checked.{total_text, LineFound, Checked};
 
@@ -24,23 +24,33 @@ pub struct Report {
     pub faulty: usize,
 }
 
+/// The words for a line, ended by a line end, and whether it is faulty.
+fn ended(heap: Global, words: &str, faulty: bool) -> Result<LineReport, AllocError>
+    ensures { IfOk result (λ l. (string_bytes l.text ≡ words.now ++ (10 ∷ [])) × (l.faulty ≡ faulty)) }
+{
+    let text = format!(in heap; "{words}\n")?;
+    Ok(LineReport { text, faulty })
+}
+
 /// The next line in words; none at the end.
 pub fn next_line(heap: Global, reader: &mut FrameReader) -> Result<Option<LineReport>, AllocError>
     ensures found { IfOk result (LineFound reader.old) }
     ensures moved { Moved reader.old reader.new }
 {
     let line = reader.line();
-    let (words, faulty) = match reader.next() {
-        Ok(None) => return Ok(None),
-        Ok(Some(frame)) => (frame_text(heap, line, &frame)?, false),
+    match reader.next() {
+        Ok(None) => Ok(None),
+        Ok(Some(frame)) => {
+            let words = frame_text(heap, line, &frame)?;
+            Ok(Some(ended(heap, words.as_str(), false)?))
+        }
         Err(fault) => {
             let whole = PageFault::Record(RecordFault::Frame(fault));
+            let words = fault_text(heap, &whole)?;
             let faulty = true;
-            (fault_text(heap, &whole)?, faulty)
+            Ok(Some(ended(heap, words.as_str(), faulty)?))
         }
-    };
-    let text = format!(in heap; "{words}\n")?;
-    Ok(Some(LineReport { text, faulty }))
+    }
 }
 
 /// How many lines there are, and how many of them are good and faulty.

@@ -1,7 +1,7 @@
 -- Rows as lists.
-use Rattle.std.specs.Prelude.{List}
+use Rattle.std.specs.Prelude.{ℕ, List, take}
+use Rattle.rows.specs.declared.row.Row.{Row}
 
--- the elements of a row, and what its array has behind them
-pub record Listed (A : Type 0) : Type 0 where
-  pub items : List A
-  pub spare : List A
+-- the elements of a row
+unfoldable pub items : {A : Type 0} {N : ℕ} → Row A N → List A
+items r = take r.len r.slots

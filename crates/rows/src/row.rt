@@ -1,43 +1,49 @@
 //! A row.
 
-ghost use Rattle.std.specs.Prelude.{◌≡◌, ◌+◌, ◌<◌, ◌≤◌, ◌↔◌, [], ◌∷◌, ◌++◌, length, IsOk, OnOk, OnErr};
+ghost use Rattle.std.specs.Prelude.{◌≤◌};
 
-use std::marker::Model;
+use std::alloc::AllocError;
 
 /// There is no room for what was to come behind the others.
 #[derive(Clone, Copy, PartialEq, Eq, Debug)]
 pub struct Full;
 
 /// A list of at most `N` elements, in an array.
-#[derive(Clone, Copy)]
+// Without a model of its own, so that a `Copy` struct that holds a row can be copied.
 pub struct Row<T, const N: usize> {
     slots: [T; N],
     len: usize,
+    ghost few: { len ≤ N },
 }
 
-impl<T, const N: usize> Model for Row<T, N> {
-    ghost use Rattle.std.specs.Prelude.{◌≡◌, ◌≤◌, ◌++◌, length, take, drop};
-    ghost use Rattle.std.proofs.Common.{arith, take-append-drop, length-take-le};
-    ghost use Rattle.rows.specs.Rows.{Listed};
+impl<T: Clone, const N: usize> Clone for Row<T, N> {
+    ghost use Rattle.std.specs.Prelude.{◌≡◌, ℕ, ◌<◌, slice_index_or};
+    ghost use Rattle.std.specs.Array.{AllZipBelow};
+    ghost use Rattle.std.specs.Array.Iter.{IntoIterFitsInMemory};
 
-    ghost Value = { Listed T };
+    ghost is_clone = { λ r s. AllZipBelow T.is_clone r.slots s.slots N × (s.len ≡ r.len) };
 
-    ghost view = { λ r. record { items = take r.len r.slots; spare = drop r.len r.slots } };
+    ghost is_infallible = { λ r. IntoIterFitsInMemory T.row N.row × ((i : ℕ) (d : T) → i < N → T.is_infallible (slice_index_or r.slots i d)) };
 
-    ghost invariant = { λ r. (r.len ≤ N) × (length r.slots ≡ N) };
-
-    ghost inverse = { λ v. record { slots = v.items ++ v.spare; len = length v.items } };
-
-    ghost inverse_ok = { λ r h i. record {
-      slots = take-append-drop r.len r.slots i;
-      len = length-take-le r.len r.slots (omega (arith, h.0, h.1)) i;
-    } };
+    fn clone(&self) -> Result<Self, AllocError> {
+        let slots = self.slots.clone()?;
+        Ok(Row {
+            slots,
+            len: self.len,
+        })
+    }
 }
+
+impl<T: Copy, const N: usize> Copy for Row<T, N> {}
 
 impl<T: Copy, const N: usize> Row<T, N> {
+    ghost use Rattle.std.specs.Prelude.{◌≡◌, ◌+◌, ◌<◌, ◌≤◌, ◌↔◌, [], ◌∷◌, ◌++◌, length, IsOk, OnOk, OnErr};
+    ghost use Rattle.rows.specs.Rows.{items};
+
     /// An empty row, whose array is filled with `blank`.
+    #[tactic(auto, unfolding(crate::specs::Rows::items))]
     pub fn new(blank: T) -> Self
-        ensures { result.items ≡ [] }
+        ensures { items result ≡ [] }
     {
         Row {
             slots: [blank; N],
@@ -46,17 +52,19 @@ impl<T: Copy, const N: usize> Row<T, N> {
     }
 
     /// The elements.
+    #[tactic(auto, unfolding(crate::specs::Rows::items))]
     pub fn as_slice(&self) -> &[T]
-        ensures value { result.now ≡ self.now.items }
+        ensures value { result.now ≡ items self.now }
         ensures few { length result.now ≤ N }
     {
         &self.slots[..self.len]
     }
 
     /// Puts an element behind the others. A full row is as it was.
+    #[tactic(auto, unfolding(crate::specs::Rows::items))]
     pub fn push(&mut self, item: T) -> Result<(), Full>
-        ensures variant { IsOk result ↔ (length self.old.items < N) }
-        ensures ok { OnOk result (self.new.items ≡ self.old.items ++ (item ∷ [])) }
+        ensures variant { IsOk result ↔ (length (items self.old) < N) }
+        ensures ok { OnOk result (items self.new ≡ items self.old ++ (item ∷ [])) }
         ensures err { OnErr result (self.new ≡ self.old) }
     {
         if self.len == N {
@@ -68,17 +76,18 @@ impl<T: Copy, const N: usize> Row<T, N> {
     }
 
     /// Puts elements behind the others. A row without room for all of them is as it was.
-    pub fn extend_from_slice(&mut self, items: &[T]) -> Result<(), Full>
-        ensures variant { IsOk result ↔ (length self.old.items + length items.now ≤ N) }
-        ensures ok { OnOk result (self.new.items ≡ self.old.items ++ items.now) }
+    #[tactic(auto, unfolding(crate::specs::Rows::items))]
+    pub fn extend_from_slice(&mut self, more: &[T]) -> Result<(), Full>
+        ensures variant { IsOk result ↔ (length (items self.old) + length more.now ≤ N) }
+        ensures ok { OnOk result (items self.new ≡ items self.old ++ more.now) }
         ensures err { OnErr result (self.new ≡ self.old) }
     {
-        if items.len() > N - self.len {
+        if more.len() > N - self.len {
             return Err(Full);
         }
-        let end = self.len + items.len();
+        let end = self.len + more.len();
         let slots = &mut self.slots[..];
-        slots[self.len..end].copy_from_slice(items);
+        slots[self.len..end].copy_from_slice(more);
         self.len = end;
         Ok(())
     }

@@ -4,6 +4,7 @@ use Rattle.frames.specs.Numbers.{page_numbers}
 use Rattle.frames.specs.Pages.{page}
 use Rattle.frames.specs.Reading.{left}
 use Rattle.frames.proofs.Pages.{ended_page, ended_refused}
+use Rattle.rows.specs.Rows.{items}
 use Rattle.bitpages.specs.Page.{paged}
 use Rattle.bitpages.specs.Table.{entry_at}
 use Rattle.bitpages.proofs.Tables.{filled, loaded_text}
@@ -27,7 +28,7 @@ returns-clause-loaded c =
     let e = c.in_ok-read_end.ensures.ended in
     let a = ended_page r.0 (left c.read_page.new.reader) c.read_page.new.reader.line q e.0 c.read_end.new.reader.line e.1 in
     let each = subst (λ (ds : List ℕ). (i : ℕ) → i < 4096 → get_or c.unpack.new.table i false ≡ entry_at ds i) c.as_slice.ensures.value c.unpack.ensures in
-    let h = filled r.0 c.in_ok-page.page.arity.n c.args.text.now c.in_ok-page.page.bytes.items (left c.read_page.new.reader) 1 c.read_page.new.reader.line c.unpack.new.table q r.2 c.unpack.array_long each in
+    let h = filled r.0 c.in_ok-page.page.arity.n c.args.text.now (items c.in_ok-page.page.bytes) (left c.read_page.new.reader) 1 c.read_page.new.reader.line c.unpack.new.table q r.2 c.unpack.array_long each in
     (c.read_end.new.reader.line, (r.0, a, h))
 
 pub returns-clause-written : goal.returns-clause-written

@@ -5,6 +5,7 @@ use Rattle.frames.specs.declared.frame.Frame.{Frame}
 use Rattle.frames.specs.Outcome.{body}
 use Rattle.frames.specs.Reading.{left}
 use Rattle.frames.proofs.Pages.{onward-none, onward-err}
+use Rattle.rows.specs.Rows.{items}
 use Rattle.bitpages.specs.Page.{packed, carried}
 use Rattle.bitpages.specs.Table.{share, count}
 use Rattle.bitpages.proofs.Packing.{share-room}
@@ -21,7 +22,7 @@ loop-i-init c =
 pub returns-in_err-read_bits : goal.returns-in_err-read_bits
 returns-in_err-read_bits c =
     let n = c.args.arity.n in
-    let ds = c.loop-i.bytes.items in
+    let ds = items c.loop-i.bytes in
     let room = share-room n c.loop-i._i (omega arith) in
     let m = left-more c.loop-i.invariant.1 (omega (arith, c.loop-i.invariant.0, share-low n)) in
     onward-err (λ (f : Frame). carried n (body f)) c.loop-i.reader.line (then_shares n m.0 ds (left c.loop-i.reader) c.loop-i.reader.line) m.2 _ _ _ c.in_err-read_bits.field-0.0 c.from_residual.result c.in_err-read_bits.ensures.answer c.from_residual.ensures.1
@@ -29,7 +30,7 @@ returns-in_err-read_bits c =
 pub returns-in_err-frame : goal.returns-in_err-frame
 returns-in_err-frame c =
     let n = c.args.arity.n in
-    let ds = c.loop-i.bytes.items in
+    let ds = items c.loop-i.bytes in
     let room = share-room n c.loop-i._i (omega arith) in
     let m = left-more c.loop-i.invariant.1 (omega (arith, c.loop-i.invariant.0, share-low n)) in
     let v = c.in_err-frame.ensures.value in
@@ -38,7 +39,7 @@ returns-in_err-frame c =
 pub unwrap-requires : goal.unwrap-requires
 unwrap-requires c =
     let n = c.args.arity.n in
-    let ds = c.loop-i.bytes.items in
+    let ds = items c.loop-i.bytes in
     let es = take (1 + c.share-share.result - 1) (drop 1 c.bytes.result.now) in
     let room = share-room n c.loop-i._i (omega arith) in
     let e = c.in_ok-read_bits.ensures in
@@ -49,7 +50,7 @@ pub loop-i-preserved : goal.loop-i-preserved
 loop-i-preserved c =
     let n = c.args.arity.n in
     let i = c.loop-i._i in
-    let ds = c.loop-i.bytes.items in
+    let ds = items c.loop-i.bytes in
     let es = take (1 + c.share-share.result - 1) (drop 1 c.bytes.result.now) in
     let room = share-room n i (omega arith) in
     let e = c.in_ok-read_bits.ensures in
@@ -62,4 +63,4 @@ returns c =
     let n = c.args.arity.n in
     let all : c.loop-i._i ≡ count c.args.arity.n = omega arith in
     let full = c.loop-i.invariant.0 ∙ ap (λ (k : ℕ). k * share n) all ∙ whole n in
-    (packed n c.loop-i.bytes.items, left-none c.loop-i.invariant.1 (omega (arith, full)), refl)
+    (packed n (items c.loop-i.bytes), left-none c.loop-i.invariant.1 (omega (arith, full)), refl)

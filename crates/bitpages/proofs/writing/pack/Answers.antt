@@ -1,6 +1,7 @@
 use Rattle.std.proofs.Common.{◌≡◌, ℕ, ◌+◌, ◌*◌, [], ◌∷◌, ◌++◌, map, length, min, sym, ap, ◌∙◌, arith, rules}
 use Rattle.std.proofs.lemmas.List.{length-drop, length-map, map-id}
 use Rattle.std.proofs.lemmas.Result.{IfOk-at_ok}
+use Rattle.rows.specs.Rows.{items}
 use Rattle.bitpages.specs.Table.{parts, byte_of}
 use Rattle.bitpages.proofs.Packing.{part_push, part_is, part_rest}
 use Rattle.bitpages.proofs.Parts.{length-parts}
@@ -23,7 +24,7 @@ loop-eight-preserved c =
     let rest = c.loop-eight.eight-iterator.rest.now in
     let eight = c.in-Some.eight.now in
     let left = c.next.new.self.rest.now in
-    let bs = c.loop-eight.bytes.items in
+    let bs = items c.loop-eight.bytes in
     let i = c.loop-eight.invariant in
     let k = i.3 in
     let e = (c.in-Some.ensures {u = tt}).steps in

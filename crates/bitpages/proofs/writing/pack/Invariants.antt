@@ -1,4 +1,5 @@
 use Rattle.std.proofs.Common.{◌≡◌, ℕ, ◌+◌, ◌*◌, ◌≤◌, map, length, drop}
+use Rattle.rows.specs.Rows.{items}
 use Rattle.bitpages.specs.Table.{parts, byte_of}
 use Rattle.bitpages.proofs.writing.pack.Given as goal
 
@@ -9,4 +10,4 @@ invariant-loop-eight l =
     × (l.eight-iterator.size ≡ 8)
     × (k : ℕ) × (l.eight-iterator.rest.now ≡ drop (k * 8) l.table)
     × (8 * k ≤ length l.table + 7)
-    × (l.bytes.items ≡ map byte_of (parts 8 k l.table))
+    × (items l.bytes ≡ map byte_of (parts 8 k l.table))

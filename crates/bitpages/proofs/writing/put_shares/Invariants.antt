@@ -1,5 +1,6 @@
 use Rattle.std.proofs.Common.{◌≡◌, ℕ, ◌*◌, ◌≤◌, ◌++◌, map, drop}
 use Rattle.frames.specs.Outcome.{body}
+use Rattle.rows.specs.Rows.{items}
 use Rattle.bitpages.specs.Table.{share, count, parts}
 use Rattle.bitpages.specs.Written.{bits_frame}
 use Rattle.bitpages.proofs.writing.put_shares.Given as goal
@@ -11,4 +12,4 @@ invariant-loop-part l =
     × (l.part-iterator.size ≡ share l.fn.arity.n)
     × (k : ℕ) × (l.part-iterator.rest.now ≡ drop (k * share l.fn.arity.n) l.bytes)
     × (k ≤ count l.fn.arity.n)
-    × (map body l.frames.items ≡ map body l.initial.frames.items ++ map bits_frame (parts (share l.fn.arity.n) k l.bytes))
+    × (map body (items l.frames) ≡ map body (items l.initial.frames) ++ map bits_frame (parts (share l.fn.arity.n) k l.bytes))

@@ -2,21 +2,22 @@ use Rattle.std.proofs.Common.{[], ◌∷◌, ◌++◌, length, sym, ap, ◌∙�
 use Rattle.std.proofs.lemmas.List.FromFn.{length-map-range_with_len, map-range_with_len_more}
 use Rattle.std.proofs.lemmas.List.{append_assoc, length-append}
 use Rattle.mapping.specs.States.{cell}
+use Rattle.rows.specs.Rows.{items}
 use Rattle.design.specs.Cells.{cells_of, number_table, code_cells}
 use Rattle.design.proofs.codes.add_code_cells.Goals as goal
 
 pub add-requires : goal.add-requires
 add-requires g c =
     let old = cells_of c.args.netlist.now in
-    let made = code_cells (g.R.CodeRule.code c.args.rule.now) c.args.j c.args.pins.items c.args.numbers.now c.loop-t.t in
+    let made = code_cells (g.R.CodeRule.code c.args.rule.now) c.args.j (items c.args.pins) c.args.numbers.now c.loop-t.t in
     let n = ap length c.loop-t.invariant.0 ∙ length-append old made in
-    let k = length-map-range_with_len (λ t. cell c.args.pins.items (number_table (g.R.CodeRule.code c.args.rule.now) c.args.j c.args.numbers.now t)) 0 c.loop-t.t in
+    let k = length-map-range_with_len (λ t. cell (items c.args.pins) (number_table (g.R.CodeRule.code c.args.rule.now) c.args.j c.args.numbers.now t)) 0 c.loop-t.t in
     omega (arith, n, k)
 
 pub loop-t-preserved : goal.loop-t-preserved
 loop-t-preserved g c =
     let t = c.loop-t.t in
-    let ps = c.args.pins.items in
+    let ps = items c.args.pins in
     let ns = c.args.numbers.now in
     let code = g.R.CodeRule.code c.args.rule.now in
     let old = cells_of c.args.netlist.now in

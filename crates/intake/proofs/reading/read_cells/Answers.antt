@@ -8,14 +8,14 @@ use Rattle.intake.proofs.reading.read_cells.Goals as goal
 
 pub returns-in_err-read_cell : goal.returns-in_err-read_cell
 returns-in_err-read_cell c =
-    let s = c.args.shape in
+    let s = c.args.shape.of in
     let view = cell_of s.pins s.bytes in
     let m = left-more c.loop-before.invariant.2 (omega arith) in
     onward-err view c.loop-before.reader.line (then_cells s.inputs s.pins s.bytes m.0 (map view (listed c.loop-before.cells)) (left c.loop-before.reader) c.loop-before.reader.line) m.2 _ _ _ c.in_err-read_cell.field-0.0 c.from_residual.result c.in_err-read_cell.ensures.answer c.from_residual.ensures.1
 
 pub returns-in_err-cell : goal.returns-in_err-cell
 returns-in_err-cell c =
-    let s = c.args.shape in
+    let s = c.args.shape.of in
     let view = cell_of s.pins s.bytes in
     let m = left-more c.loop-before.invariant.2 (omega arith) in
     let v = c.in_err-cell.ensures.value in
@@ -23,7 +23,7 @@ returns-in_err-cell c =
 
 pub loop-before-preserved : goal.loop-before-preserved
 loop-before-preserved c =
-    let s = c.args.shape in
+    let s = c.args.shape.of in
     let view = cell_of s.pins s.bytes in
     let cell = c.in_ok-cell.cell in
     let m = left-more c.loop-before.invariant.2 (omega arith) in
@@ -35,7 +35,7 @@ loop-before-preserved c =
 
 pub returns : goal.returns
 returns c =
-    let s = c.args.shape in
+    let s = c.args.shape.of in
     let i = c.loop-before.invariant in
     let cs = map (cell_of s.pins s.bytes) (listed c.loop-before.cells) in
     (record { inputs = s.inputs; cells = cs }, left-none i.2 (omega arith), ap (λ (n : ℕ). record { inputs = n; cells = cs }) (sym i.1))

@@ -18,11 +18,11 @@ module _ (o : Option Frame) (f : Frame) (bs : List ℕ) (some : o ≡ Some f) (i
   sized n h = ap length is ∙ (rw some at h)
 
 pub slice_bounds-split_at-end : goal.slice_bounds-split_at-end
-slice_bounds-split_at-end c = omega (arith, sized c.in_ok-frame.field-0 c.in-Some.frame c.bytes.result.now c.in-Some.is c.bytes.ensures (c.args.shape.pins + c.args.shape.bytes + 2) c.in_ok-frame.ensures.long)
+slice_bounds-split_at-end c = omega (arith, sized c.in_ok-frame.field-0 c.in-Some.frame c.bytes.result.now c.in-Some.is c.bytes.ensures (c.args.shape.of.pins + c.args.shape.of.bytes + 2) c.in_ok-frame.ensures.long)
 
 pub returns-then-not-are_pins : goal.returns-then-not-are_pins
 returns-then-not-are_pins c =
-    let s = c.args.shape in
+    let s = c.args.shape.of in
     let bs = c.bytes.result.now in
     let xs = left c.args.reader.now in
     let line = c.args.reader.now.line in
@@ -37,7 +37,7 @@ returns-then-not-are_pins c =
 
 pub returns : goal.returns
 returns c =
-    let s = c.args.shape in
+    let s = c.args.shape.of in
     let bs = c.bytes.result.now in
     let xs = left c.args.reader.now in
     let line = c.args.reader.now.line in

@@ -1,6 +1,7 @@
 use Rattle.std.proofs.Common.{length, ◌≡◌, ℕ, get_or, ap, ◌∙◌, arith}
 use Rattle.std.proofs.lemmas.List.{get_or-take, length-set, length-take-le}
 use Rattle.std.proofs.lemmas.List.Edits.{fill_by_more}
+use Rattle.rows.specs.Rows.{items}
 use Rattle.nodes.specs.NodeCharts.{seen}
 use Rattle.nodes.proofs.Charting.{code_room}
 use Rattle.nodes.proofs.recode.leaves_of.Goals as goal
@@ -19,7 +20,7 @@ loop-q-preserved c =
     let w = c.power.ensures.within (omega (arith, c.requires.few)) in
     let room = code_room r.codes c.requires.few in
     let k = length-take-le c.power.result r.class_of.now (omega (arith, c.requires.coded)) in
-    let f : ℕ → ℕ = λ z. seen s.nodes.items (length s.nodes.items) r.bound (get_or r.places.now z 0) in
+    let f : ℕ → ℕ = λ z. seen (items s.nodes) (length (items s.nodes)) r.bound (get_or r.places.now z 0) in
     let e : c.number.result ≡ f (get_or r.class_of.now q 0) = c.number.ensures ∙ ap f (get_or-take c.power.result r.class_of.now q 0 (omega arith)) in
     let inv = c.loop-q.invariant in
     rw e (fill_by_more (λ x. f (get_or r.class_of.now x 0)) c.loop-q.leaves q 0 (omega (arith, inv.1)) inv.0, length-set c.loop-q.leaves q (f (get_or r.class_of.now q 0)) ∙ inv.1)

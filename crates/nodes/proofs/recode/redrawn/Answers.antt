@@ -1,5 +1,6 @@
 use Rattle.std.proofs.Common.{◌≡◌, ℕ, ◌-◌, ◌^◌, length, get_or, sym, ap, ◌∙◌, arith, rules}
 use Rattle.std.proofs.lemmas.List.{length-take-le}
+use Rattle.rows.specs.Rows.{items}
 use Rattle.nodes.specs.NodeCharts.{seen}
 use Rattle.nodes.proofs.Charting.{code_room, coded, ready, recoded_is}
 use Rattle.nodes.proofs.recode.redrawn.Goals as goal
@@ -22,11 +23,12 @@ crown-root-requires-clause-leaves c =
     let s = c.args.chart.now in
     let r = c.args.recoding.now in
     let len : length c.leaves_of-leaves.result ≡ 16 = search rules in
-    let f : ℕ → ℕ = λ z. seen s.nodes.items (length s.nodes.items) r.bound (get_or r.places.now z 0) in
+    let f : ℕ → ℕ = λ z. seen (items s.nodes) (length (items s.nodes)) r.bound (get_or r.places.now z 0) in
     let l = coded f r.class_of.now r.codes c.power.result (c.power.ensures.within (omega (arith, c.requires.few))) c.requires.few c.leaves_of-leaves.result len c.leaves_of-leaves.ensures in
-    let raw = c.shifted-raw.result in
-    let e = c.shifted-raw.ensures in
-    rw e.arity (ready s r.bound r.codes r.places.now r.class_of.now c.requires _ l raw.nodes.items e.shifts (length raw.nodes.items) e.all e.none)
+    let raw = c.shifted.new.raw in
+    let e = c.shifted.ensures in
+    let arity = e.arity ∙ c.new-raw.ensures.arity in
+    rw arity (ready s r.bound r.codes r.places.now r.class_of.now c.requires _ l (items raw.nodes) e.shifts (length (items raw.nodes)) e.all e.none)
 
 pub crown-root-requires-clause-width : goal.crown-root-requires-clause-width
 crown-root-requires-clause-width c =
@@ -41,11 +43,12 @@ returns c =
     let s = c.args.chart.now in
     let r = c.args.recoding.now in
     let len : length c.leaves_of-leaves.result ≡ 16 = search rules in
-    let f : ℕ → ℕ = λ z. seen s.nodes.items (length s.nodes.items) r.bound (get_or r.places.now z 0) in
+    let f : ℕ → ℕ = λ z. seen (items s.nodes) (length (items s.nodes)) r.bound (get_or r.places.now z 0) in
     let l = coded f r.class_of.now r.codes c.power.result (c.power.ensures.within (omega (arith, c.requires.few))) c.requires.few c.leaves_of-leaves.result len c.leaves_of-leaves.ensures in
-    let raw = c.shifted-raw.result in
-    let e = c.shifted-raw.ensures in
+    let raw = c.shifted.new.raw in
+    let e = c.shifted.ensures in
+    let arity = e.arity ∙ c.new-raw.ensures.arity in
     let top = c.crown-root.new.self in
-    let t = rw e.arity at c.crown-root.ensures.top in
-    let m = rw (c.crown-root.ensures.arity, e.arity) at c.reduced.ensures in
-    rw (recoded_is s r.bound r.codes r.places.now r.class_of.now c.requires _ l raw.nodes.items e.shifts (length raw.nodes.items) e.all e.none top.nodes.items (length top.nodes.items) c.crown-root.result t) at m
+    let t = rw arity at c.crown-root.ensures.top in
+    let m = rw (c.crown-root.ensures.arity, arity) at c.reduced.ensures in
+    rw (recoded_is s r.bound r.codes r.places.now r.class_of.now c.requires _ l (items raw.nodes) e.shifts (length (items raw.nodes)) e.all e.none (items top.nodes) (length (items top.nodes)) c.crown-root.result t) at m

@@ -4,6 +4,7 @@ use Rattle.std.proofs.lemmas.List.FromFn.{length-map-range_with_len, get_or-map-
 use Rattle.std.proofs.lemmas.List.{length-take-le, take-take}
 use Rattle.functions.specs.Words.{bits}
 use Rattle.functions.specs.Classes.{class_of}
+use Rattle.rows.specs.Rows.{items}
 use Rattle.design.specs.Cells.{cells_of}
 use Rattle.design.specs.Designs.{left_of}
 use Rattle.design.proofs.Splits.{classes-inside, split_short, split_full, split_unfit, split_done}
@@ -57,7 +58,7 @@ returns g c =
     let small = g.C.Chart.laws.small c.args.self.now.chart.below in
     let wide = length-take-le c.count-2.result d.live (omega (arith, c.count-2.ensures)) in
     let f = left_of g.C.Chart g.R.CodeRule g.F.CellFamily d in
-    let ns = c.class_numbers-numbers.result.items in
+    let ns = items c.class_numbers-numbers.result in
     let numbers = c.class_numbers-numbers.ensures in
     split_done g.C.Chart g.R.CodeRule g.F.CellFamily d b c.args.j c.in-Some.classes c.args.strip.now c.number_classes.new.strip long c.if-self.false ranged c.in-Some.ensures few
     spare c.code_classes.result codes.long codes.classes (take c.in-Some.classes c.number_classes.new.strip) refl

@@ -5,6 +5,7 @@ use Rattle.frames.specs.Outcome.{body}
 use Rattle.frames.specs.Text.{text}
 use Rattle.intake.specs.Written.{heading_frame, cell_frame}
 use Rattle.mapping.specs.Kept.{configured}
+use Rattle.rows.specs.Rows.{items}
 use Rattle.design.specs.Cells.{seen_cell}
 use Rattle.design.specs.Designs.{network_seen}
 use Rattle.design.proofs.Written.{frames_count, frames_more, page_written, write_open, write_short, write_done}
@@ -17,7 +18,7 @@ pub unwrap-requires-in-loop-cell : goal.unwrap-requires-in-loop-cell
 unwrap-requires-in-loop-cell g c =
     let fa = g.F.CellFamily in
     let d = c.args.self.now in
-    let n = frames_count (λ x. cell_frame (configured (fa.pins d.family) (fa.packed d.family) (seen_cell x))) c.loop-cell.frames.items c.as_slice-cell-items.result.now (heading_frame (fa.number d.family) (network_seen g.C.Chart g.R.CodeRule fa d) ∷ []) c.loop-cell.cell-index (omega arith) c.loop-cell.invariant in
+    let n = frames_count (λ x. cell_frame (configured (fa.pins d.family) (fa.packed d.family) (seen_cell x))) (items c.loop-cell.frames) c.as_slice-cell-items.result.now (heading_frame (fa.number d.family) (network_seen g.C.Chart g.R.CodeRule fa d) ∷ []) c.loop-cell.cell-index (omega arith) c.loop-cell.invariant in
     c.push-in-loop-cell.ensures.variant.1 (omega (arith, c.as_slice-cell-items.ensures.few))
 
 pub loop-cell-init : goal.loop-cell-init
@@ -28,7 +29,7 @@ loop-cell-preserved g c =
     let fa = g.F.CellFamily in
     let d = c.args.self.now in
     ap (map body) (IfOk-at_ok _ c.unwrap-in-loop-cell.ensures c.push-in-loop-cell.ensures.ok)
-    ∙ frames_more (λ x. cell_frame (configured (fa.pins d.family) (fa.packed d.family) (seen_cell x))) c.loop-cell.frames.items c.as_slice-cell-items.result.now (heading_frame (fa.number d.family) (network_seen g.C.Chart g.R.CodeRule fa d) ∷ []) c.loop-cell.cell-index c.cell-item.result c.frame_of.result
+    ∙ frames_more (λ x. cell_frame (configured (fa.pins d.family) (fa.packed d.family) (seen_cell x))) (items c.loop-cell.frames) c.as_slice-cell-items.result.now (heading_frame (fa.number d.family) (network_seen g.C.Chart g.R.CodeRule fa d) ∷ []) c.loop-cell.cell-index c.cell-item.result c.frame_of.result
     c.loop-cell-test.true c.loop-cell.invariant (c.frame_of.ensures ∙ ap (λ x. cell_frame (configured (fa.pins d.family) (fa.packed d.family) (seen_cell x))) c.cell-item.is)
 
 pub returns : goal.returns

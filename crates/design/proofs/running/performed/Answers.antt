@@ -1,7 +1,7 @@
 use Rattle.std.proofs.Common.{length}
 use Rattle.design.specs.Runs.{tolds}
 use Rattle.design.proofs.Performed.{kept_run}
-use Rattle.design.proofs.running.perform.Goals as goal
+use Rattle.design.proofs.running.performed.Goals as goal
 
 pub returns-clause-kept : goal.returns-clause-kept
 returns-clause-kept g c =
