@@ -11,6 +11,7 @@ mod tests {
     use frames::writer::write_frames;
     use reports::check::check_text;
     use reports::words::fault_text;
+    use rows::Row;
     use std::test::Fail;
 
     fn numbers(layer: u8, cause: u8, line: usize, node: usize) -> FaultNumbers {
@@ -30,6 +31,19 @@ mod tests {
             Ok(_) => numbers(0, 0, 0, 0),
             Err(fault) => fault.numbers(),
         }
+    }
+
+    // A row's clone has its elements.
+    #[test]
+    fn a_row_is_cloned(rt: HostRuntime) -> Result<(), Fail> {
+        let mut row: Row<u8, 3> = Row::new(0);
+        assert_eq!(rt; row.extend_from_slice(&[7, 9]), Ok(()));
+        let Ok(other) = row.clone() else {
+            return Err(Fail::new("a row of bytes is cloned"));
+        };
+        assert_eq!(rt; other.as_slice().len(), 2);
+        assert_eq!(rt; other.as_slice().last().copied(), Some(9));
+        Ok(())
     }
 
     #[test]

@@ -38,6 +38,7 @@ pub fn next_line(heap: Global, reader: &mut FrameReader) -> Result<Option<LineRe
     ensures moved { Moved reader.old reader.new }
 {
     let line = reader.line();
+    // Kept: as one match that gives the words, the proof did not close: what an arm knows is lost where the arms join.
     match reader.next() {
         Ok(None) => Ok(None),
         Ok(Some(frame)) => {
